@@ -71,7 +71,7 @@ filled order (suc n) (a ∷ b ∷ bytes) (u ∷ us) half space same =
 pub units-filled : (order : BoM) (bytes us : List ℕ) (n : ℕ) → length bytes / 2 ≤ n → length bytes / 2 ≤ length us → AreUnitsOf order bytes us n → take (length bytes / 2) us ≡ units_in order bytes
 units-filled order bytes us n over space same = filled order (length bytes / 2) bytes us refl space (λ j within. same j (omega arith))
 
--- Eight more units, from the bytes after those that were read.
+-- If eight more units are those of the bytes after the ones that were read, all units are those of the bytes.
 pub eight-more : (bytes us vs ys : List ℕ) (done left : ℕ) → 16 ≤ left → done + 8 ≤ length us → length ys ≡ 8 → take (done + 8) vs ≡ take done us ++ ys → AreUnitsOf Big bytes us done
     → ((k : ℕ) → k < 8 → get_or ys k 0 ≡ unit_in Big (get_or (take left (drop (2 * done) bytes)) (2 * k) 0) (get_or (take left (drop (2 * done) bytes)) (2 * k + 1) 0)) → AreUnitsOf Big bytes vs (done + 8)
 eight-more bytes us vs ys done left enough space long stored before units j below =

@@ -1,4 +1,4 @@
--- A fault stays the same whatever follows the bytes, or the bytes end within a character that others complete.
+-- A fault is the same whatever follows the bytes, or the bytes end within a character that others complete.
 use Rattle.std.proofs.Common.{◌≡◌, inl, inr, ℕ, ◌+◌, ◌-◌, ◌*◌, ◌/◌, ◌%◌, ◌<◌, ◌≤◌, List, [], ◌∷◌, ◌++◌, Bool, true, Option, Some, None, length, get_or, take, drop, refl, sym, ap, ◌∙◌, subst, arith, length-append, length-drop}
 use Rattle.std.specs.Prelude.{nat_lt, ◌==◌, if◌then◌else◌}
 use Rattle.std.specs.Char.{IsScalar}
@@ -25,7 +25,7 @@ use Rattle.wide_conversions.proofs.ValidPrefixes.{bytes-four, bytes-three, bytes
 unlike : (bs : List ℕ) → 0 < length bs → StartsWithNoChar bs → (c n : ℕ) → BeginsWith bs (Char c) n → ⊥
 unlike bs some none c n begins = (let same : Fault (get_or bs 0 0) ∷ utf8_items (drop (utf8_invalid_len bs) bs) ≡ Char c ∷ utf8_items (drop n bs) = sym (begins-part bs (utf8_invalid_len bs) some none refl) ∙ begins in cc)
 
--- Fewer bytes than a character has that begins with them: std reports no length of a fault.
+-- If bytes begin a character and are fewer than it has, std reports no length of a fault.
 few-one : (bs : List ℕ) (y : ℕ) → length bs ≡ 1 → may_follow (get_or bs 0 0) y ≡ true → utf8_error_len bs ≡ None
 unfolding utf8_error_len
 few-one bs y long may = grind (arith, nat_tests)
@@ -38,7 +38,7 @@ few-three : (bs : List ℕ) → length bs ≡ 3 → may_follow (get_or bs 0 0) (
 unfolding utf8_error_len
 few-three bs long may trails = grind (arith, nat_tests)
 
--- Where std reports none, the bytes are such bytes.
+-- If std reports no length of a fault, the bytes begin a character and are fewer than it has.
 cut-one : (x : ℕ) → utf8_error_len (x ∷ []) ≡ None → may_follow x (second_byte_min x) ≡ true
 unfolding utf8_error_len
 cut-one x cut = grind (arith, nat_tests)
@@ -55,7 +55,7 @@ cut-short : (bs : List ℕ) → 4 ≤ length bs → utf8_error_len bs ≡ None �
 unfolding utf8_error_len
 cut-short bs long cut = grind (arith, nat_tests)
 
--- More bytes after the first ones.
+-- The list `cs` is `bs` with more bytes after it.
 record IsLonger (bs cs : List ℕ) : Type 0 where
   long : length bs ≤ length cs
   same : (k : ℕ) → k < length bs → get_or cs k 0 ≡ get_or bs k 0

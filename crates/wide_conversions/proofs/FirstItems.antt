@@ -13,7 +13,7 @@ use Rattle.wide_forms.specs.Laws.Utf8.{one_byte}
 use Rattle.wide_conversions.specs.Utf8Items.{AreUtf8Items, BeginsWith, character, part, utf8_items, utf8_items-divide, utf8_items-unique}
 use Rattle.wide_conversions.proofs.ValidPrefixes.{bytes-two, bytes-three, bytes-four}
 
--- For any bytes.
+-- What any bytes begin with: a character, or a fault.
 begins-character : (bs : List ℕ) (c n : ℕ) → IsScalar c → take n bs ≡ utf8_bytes c → BeginsWith bs (Char c) n
 begins-character bs c n scalar is =
     let rest = drop n bs in

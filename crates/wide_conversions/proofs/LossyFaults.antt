@@ -16,12 +16,12 @@ use Rattle.wide_unit.proofs.Faults.{first_fault-below, first_fault-first, first_
 use Rattle.wide_conversions.proofs.LossyItems.{ends-characters}
 
 module _ (form : EncodingForm) where
-  -- After characters, no fault was read last, if there are any.
+  -- If characters were read last, no fault was read last.
   ends-units : (after : Bool) (cs prefix : List ℕ) → encode form cs ≡ prefix → (length prefix ≡ 0 → ends_in_fault after (map Char cs) ≡ after) × (1 ≤ length prefix → ends_in_fault after (map Char cs) ≡ false)
   ends-units after [] prefix is = (λ none. refl, λ some. absurd (omega (arith, some, ap length is)))
   ends-units after (c ∷ cs) prefix is = (λ none. absurd (omega (arith, none, ap length is, length-append (code_units form c) (encode form cs), some_units form c)), λ some. ends-characters cs)
 
-  -- At the first fault, the items are the fault and the items of the units after it.
+  -- From the first fault on, the items are the fault and the items of the units after it.
   beyond-fault : (us : List ℕ) (n item u : ℕ) → IsFirstFault form us n item u → items form (drop n us) ≡ Fault u ∷ items form (drop 1 (drop n us))
   beyond-fault us n item u fault =
       let (rest, first) = first_fault-first form us n item u fault in

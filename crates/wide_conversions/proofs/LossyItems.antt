@@ -103,7 +103,7 @@ module _ (form : EncodingForm) (policy : Policy) where
     flag = sym (ends-some after n bs some within);
   }
 
--- Lossy text of UTF-8 and the bytes after it.
+-- The lossy text of UTF-8 and of the bytes after it, and whether a fault was read last.
 ends-encoded : (after : Bool) (cs prefix : List ℕ) → encode_utf8_all cs ≡ prefix → (length prefix ≡ 0 → ends_in_fault after (map Char cs) ≡ after) × (1 ≤ length prefix → ends_in_fault after (map Char cs) ≡ false)
 ends-encoded after [] prefix is = (λ none. refl, λ some. absurd (omega (arith, some, ap length is)))
 ends-encoded after (c ∷ cs) prefix is =

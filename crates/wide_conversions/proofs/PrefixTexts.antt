@@ -18,7 +18,7 @@ use Rattle.wide_forms.specs.declared.policy.Policy.TheVariants.{Each}
 use Rattle.wide_conversions.specs.Utf8Items.{AreUtf8Items, character, none, part, utf8_items, utf8_items-divide, utf8_items-unique}
 use Rattle.wide_conversions.specs.Laws.Utf8Items.{below_more, no_char-beyond, shorter-part, valid_len-prefix, valid_len-longest}
 
--- Characters, and then other items.
+-- The items of characters and other bytes after them are the characters and the items of the other bytes.
 after_chars : (cs bs : List ℕ) (is : List Item) → all_scalars cs ≡ true → AreUtf8Items bs is → AreUtf8Items (encode_utf8_all cs ++ bs) (map Char cs ++ is)
 after_chars [] bs is scalars more = more
 after_chars (c ∷ cs) bs is scalars more =
@@ -32,7 +32,7 @@ after_text prefix bs is text more =
     let same = chars_from_encodes text.0 prefix text text.1.1 in
     subst (λ xs. AreUtf8Items (xs ++ bs) (map Char (str_chars prefix) ++ is)) text.1.1 (subst (λ cs. AreUtf8Items (encode_utf8_all text.0 ++ bs) (map Char cs ++ is)) same (after_chars text.0 bs is text.1.0 more))
 
--- A prefix that is UTF-8, and then other bytes.
+-- The items of bytes with a prefix that is UTF-8 are its characters and the items of the other bytes.
 pub utf8_items-prefix : (bs : List ℕ) (n : ℕ) → IsUtf8 (take n bs) → utf8_items bs ≡ map Char (str_chars (take n bs)) ++ utf8_items (drop n bs)
 utf8_items-prefix bs n text =
     let rest = drop n bs in
@@ -56,7 +56,7 @@ utf8_items-chunk bs n m prefix unread some is =
     let beyond : last ≡ drop (n + m) bs = drop-drop (utf8_invalid_len rest) n bs ∙ ap (λ k. drop (n + k) bs) (sym is) in
     utf8_items-unique bs (utf8_items bs) _ (utf8_items-divide bs) whole ∙ ap (λ u. prefix_items ++ Fault u ∷ utf8_items last) first ∙ ap (λ xs. prefix_items ++ Fault (slice_index bs n) ∷ utf8_items xs) beyond
 
--- A prefix after which the bytes stop being UTF-8.
+-- The items of bytes whose longest prefix of UTF-8 is followed by a fault.
 pub utf8_items-valid_up_to : (bs : List ℕ) (n m : ℕ) → IsValidUpTo bs n → m ≡ utf8_invalid_len (drop n bs) → utf8_items bs ≡ map Char (str_chars (take n bs)) ++ Fault (slice_index bs n) ∷ utf8_items (drop (n + m) bs)
 utf8_items-valid_up_to bs n m valid is = utf8_items-chunk bs n m valid.front (no_char-beyond bs n valid.front (λ k more within. valid.longest k more)) (omega (arith, valid.short, length-drop n bs)) is
 
@@ -69,7 +69,7 @@ utf8_items-valid_len bs n m valid short is =
 after_characters : (cs : List ℕ) (u : ℕ) (is : List Item) → lossy (map Char cs ++ Fault u ∷ is) ≡ cs ++ 0xFFFD ∷ lossy is
 after_characters cs u is = lossy_after-append Each false (map Char cs) (Fault u ∷ is) ∙ ap (λ ds. ds ++ 0xFFFD ∷ lossy is) (lossy_after-chars Each false cs)
 
--- U+FFFD, and then other bytes.
+-- The text of U+FFFD and other bytes is that character and the text of the others.
 replacement : (bs : List ℕ) → str_chars (replacement_bytes ++ bs) ≡ 0xFFFD ∷ str_chars bs
 unfolding chars
 replacement [] = refl

@@ -129,15 +129,15 @@ BlockFollows block = (k : ℕ) → k < 64 → CanFollow (get_or block k 0) (get_
 abbrev pub Following : ℕ → List ℕ → Type 0
 Following n bs = (k : ℕ) → k < n → CanFollow (get_or bs k 0) (get_or bs (k + 1) 0) (get_or bs (k + 2) 0) (get_or bs (k + 3) 0)
 
--- It holds for equal bytes.
+-- `CanFollow` holds for equal bytes.
 follow_as : (a b c d x y z w : ℕ) → a ≡ x → b ≡ y → c ≡ z → d ≡ w → CanFollow a b c d → CanFollow x y z w
 follow_as a b c d x y z w ax by cz dw ok = subst (λ p. CanFollow p y z w) ax (subst (λ p. CanFollow a p z w) by (subst (λ p. CanFollow a b p w) cz (subst (λ p. CanFollow a b c p) dw ok)))
 
--- An index after three others.
+-- An index after three zeros is an index in the bytes after them.
 past_three : (bs : List ℕ) (m j : ℕ) → m ≡ suc (suc (suc j)) → get_or (0 ∷ 0 ∷ 0 ∷ bs) m 0 ≡ get_or bs j 0
 past_three bs m j is = ap (λ k. get_or (0 ∷ 0 ∷ 0 ∷ bs) k 0) is
 
--- The first block, after three zeros.
+-- What the check says of the first block, which is read after three zeros.
 pub first_follow : (bs xs : List ℕ) → xs ≡ take 64 bs → BlockFollows (0 ∷ 0 ∷ 0 ∷ xs) → AllFollow bs 64
 first_follow bs xs is ok k before = follow_as _ _ _ _ _ _ _ _ (byte k k (omega arith) refl) (byte (k + 1) (suc k) (omega arith) (omega arith)) (byte (k + 2) (suc (suc k)) (omega arith) (omega arith)) (byte (k + 3) (suc (suc (suc k))) (omega arith) (omega arith)) (ok k before)
   where
@@ -150,7 +150,7 @@ first_follow bs xs is ok k before = follow_as _ _ _ _ _ _ _ _ (byte k k (omega a
     byte : (i m : ℕ) → i < 67 → m ≡ i → get_or (0 ∷ 0 ∷ 0 ∷ xs) i 0 ≡ get_or (0 ∷ 0 ∷ 0 ∷ bs) m 0
     byte i m few at = same i few ∙ ap (λ j. get_or (0 ∷ 0 ∷ 0 ∷ bs) j 0) (sym at)
 
--- One more block, read with the three bytes before it.
+-- If one more block is read with the three bytes before it, its bytes may follow too.
 pub more_follow : (bs : List ℕ) (end n more : ℕ) → more + 3 ≤ n → 3 ≤ end → AllFollow bs end → Following more (take n (drop (end - 3) bs)) → AllFollow bs (end + more)
 more_follow bs end n more whole some before ok k within = elim (cases_lt k end) [ inl early ↦ before k early | inr late ↦ at late ]
   where

@@ -10,7 +10,7 @@ use Rattle.wide_edit.specs.declared.edits.Edit.{Edit}
 use Rattle.wide_edit.specs.declared.edits.Edit.TheVariants.{Push, PushStr, Pop, Truncate, Insert, InsertStr, Remove, Retain, Drain, Replace, SplitOff, Clear}
 use Rattle.wide_editable.specs.Marked.{first_changed}
 
--- The index of an edit's first character lies within the text, and the characters before it stay as they are.
+-- The index of an edit's first character lies within the text, and the characters before it are unchanged.
 pub offset-within : (n : ℕ) (e : Edit) → first_changed n e ≤ n
 offset-within n (Push c) = omega arith
 offset-within n (PushStr t) = omega arith

@@ -42,7 +42,7 @@ module _ (l : List ℕ) where
   pub replaces-none : Replaces l l (length l) (length l)
   replaces-none = record { fits = omega arith; prefix = refl; rest = ap (λ n. drop n l) (omega arith) }
 
-  -- The range is the one that was stated, or is empty at the end since that is none.
+  -- The range is the one that was stated, or, if that is no range of the text, the empty one at the end.
   abbrev pub IsStated : ℕ → ℕ → ℕ → ℕ → Type 0
   IsStated a b from to = ((from ≡ a) × (to ≡ b)) ⊎ ((is_range a b (length l) ≡ false) × (from ≡ length l) × (to ≡ length l))
 

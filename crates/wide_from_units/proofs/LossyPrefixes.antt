@@ -25,7 +25,7 @@ module _ {C : Type 0} (form : EncodingForm) (number : C → ℕ) where
       some_of [] e = absurd cc
       some_of (c ∷ cs) e = omega arith
 
-  -- Whether a fault is last, after well-formed units.
+  -- Well-formed units do not end in a fault, unless there are none and a fault precedes them.
   after_valid : (after now : Bool) (us : List C) → IsWellFormed form (map number us) → (length us ≡ 0 → now ≡ after) → (1 ≤ length us → now ≡ false) → ends_in_fault after (map Char (chars form (map number us))) ≡ now
   after_valid after now [] well same other = ap (ends_in_fault after) (sym (chars-of_well_formed form [] well) ∙ items-nil form) ∙ sym (same refl)
   after_valid after now (u ∷ us) well same other = ends_in_fault-chars after (chars form (map number (u ∷ us))) (some_text (u ∷ us) well (omega arith)) ∙ sym (other (omega arith))
@@ -78,7 +78,7 @@ module _ {C : Type 0} (form : EncodingForm) (number : C → ℕ) where
   none-left policy after [] none = ap (lossy_after policy after) (items-nil form) ∙ lossy_after-none_left policy after
   none-left policy after (u ∷ us) none = absurd (omega arith)
 
-  -- All text was written, or counted.
+  -- When no units are left, all text was written, or counted.
   pub all-written : (policy : Policy) (after : Bool) (us : List C) (now all : List ℕ) → length us ≡ 0 → now ++ utf8 (lossy_after policy after (items form (map number us))) ≡ all → now ≡ all
   all-written policy after us now all none so_far = sym (append-nil now) ∙ ap (λ cs. now ++ utf8 cs) (sym (none-left policy after us none)) ∙ so_far
 

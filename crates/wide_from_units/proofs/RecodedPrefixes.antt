@@ -25,12 +25,12 @@ module _ {X : Type 0} (number : X → ℕ) (from to : EncodingForm) where
     well_formed = prefix.well_formed;
   }
 
-  -- After one character.
+  -- One character more was converted.
   pub recoded-one : (all made after : List ℕ) (rest left : List X) (c : ℕ) → IsRecoded all made rest → items from (map number rest) ≡ Char c ∷ items from (map number left) → after ≡ made ++ code_units to c → IsRecoded all after left
   recoded-one all made after rest left c so_far first stored =
       recoded-then all made after (c ∷ []) rest left so_far (prefix_chars-one from (map number rest) (map number left) c so_far.well_formed first) (stored ∙ ap (λ us. made ++ us) (sym (append-nil (code_units to c))))
 
-  -- After a block of sixteen units that are a character each.
+  -- A block of sixteen units that are a character each was converted.
   pub recoded-block : (all made after : List ℕ) (xs : List X) (at n : ℕ) → IsRecoded all made (drop at xs) → at + 16 ≤ length xs → n ≡ 16 → ((k : ℕ) → k < 16 → get_or (map number (take n (drop at xs))) k 0 < 0x1_0000)
       → ((k : ℕ) → k < 16 → 0xd800 ≤ get_or (map number (take n (drop at xs))) k 0 → 0xe000 ≤ get_or (map number (take n (drop at xs))) k 0) → after ≡ made ++ map number (take n (drop at xs)) → IsRecoded all after (drop (at + 16) xs)
   recoded-block all made after xs at n so_far within sixteen below plain stored =
@@ -46,11 +46,11 @@ module _ {X : Type 0} (number : X → ℕ) (from to : EncodingForm) where
       let same : encode to (take n us) ≡ take n us = encode-narrow to (take n us) (λ k short. narrow k (omega (arith, length-take-le n us (omega (arith, long))))) in
       recoded-then all made after (take n us) (drop at xs) (drop (at + 16) xs) so_far prefix (stored ∙ ap (λ vs. made ++ vs) (sym (same ∙ block)))
 
-  -- What is after a prefix, as a slice of the units.
+  -- The units after a prefix, as a slice of the units, are well formed.
   pub well_formed-beyond : (xs : List X) (at : ℕ) → IsWellFormed from (map number (drop at xs)) → IsWellFormed from (map number (take (length xs - at) (drop at xs)))
   well_formed-beyond xs at well = subst (λ ys. IsWellFormed from (map number ys)) (sym (take_rest xs at)) well
 
-  -- After a prefix of that slice.
+  -- A prefix of the slice after a prefix was converted.
   pub recoded-beyond : (all made after : List ℕ) (xs : List X) (at n : ℕ) → all ≡ made ++ encode to (chars from (map number (drop at xs)))
       → IsRecoded (made ++ encode to (chars from (map number (take (length xs - at) (drop at xs))))) after (drop n (take (length xs - at) (drop at xs))) → IsRecoded all after (drop (at + n) xs)
   recoded-beyond all made after xs at n so_far prefix =

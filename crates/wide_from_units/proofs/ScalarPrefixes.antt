@@ -18,11 +18,11 @@ pub record IsPrefixChars (form : EncodingForm) (us rest cs : List ℕ) : Type 0 
   pub well_formed : IsWellFormed form rest
 
 module _ (form : EncodingForm) where
-  -- After one character.
+  -- The prefix is one character.
   pub prefix_chars-one : (us rest : List ℕ) (c : ℕ) → IsWellFormed form us → items form us ≡ Char c ∷ items form rest → IsPrefixChars form us rest (c ∷ [])
   prefix_chars-one us rest c well e = record { text = ap characters e; well_formed = well_formed-rest form us rest well c e }
 
-  -- After the units of characters.
+  -- The prefix is the units of some characters.
   prefix_chars-encode : (rest cs : List ℕ) → All IsScalar cs → IsWellFormed form (encode form cs ++ rest) → IsPrefixChars form (encode form cs ++ rest) rest cs
   prefix_chars-encode rest [] scalars well = record { text = refl; well_formed = well }
   prefix_chars-encode rest (c ∷ cs) scalars well =
@@ -31,7 +31,7 @@ module _ (form : EncodingForm) where
       let more = prefix_chars-encode rest cs (λ k d within. scalars (suc k) d (omega (arith, within))) (well_formed-rest form (encode form (c ∷ cs) ++ rest) (encode form cs ++ rest) well c first) in
       record { text = ap characters first ∙ ap (λ ds. c ∷ ds) more.text; well_formed = more.well_formed }
 
-  -- After units that are a character each.
+  -- The prefix is units that are a character each.
   pub prefix_chars-units : (us : List ℕ) (n : ℕ) → IsWellFormed form us → n ≤ length us → ((k : ℕ) → k < n → get_or (take n us) k 0 < 0x1_0000)
       → ((k : ℕ) → k < n → 0xd800 ≤ get_or (take n us) k 0 → 0xe000 ≤ get_or (take n us) k 0) → IsPrefixChars form us (drop n us) (take n us)
   prefix_chars-units us n well within below plain =
@@ -47,12 +47,12 @@ module _ (form : EncodingForm) where
           let read : get_or (take n us) k d ≡ get_or (take n us) k 0 = get_or_default_zero (take n us) k d (omega (arith, length-take-le n us within)) in
           record { below = omega (arith, read, below k short); no_surrogate = λ from. omega (arith, read, plain k short (omega (arith, read))) }
 
-  -- After two adjacent prefixes, for a function of characters that can be computed chunk by chunk.
+  -- Two adjacent prefixes are one, for a function of characters that can be computed chunk by chunk.
   pub prefix_chars-then : (make : List ℕ → List ℕ) → ((cs ds : List ℕ) → make (cs ++ ds) ≡ make cs ++ make ds) → (rest left all done more : List ℕ) → all ≡ done ++ make (chars form rest) → IsPrefixChars form rest left more → all ≡ (done ++ make more) ++ make (chars form left)
   prefix_chars-then make parts rest left all done more so_far prefix =
       so_far ∙ ap (λ cs. done ++ make cs) prefix.text ∙ ap (λ us. done ++ us) (parts more (chars form left)) ∙ sym (append_assoc done (make more) (make (chars form left)))
 
--- The rest of the units, by its length.
+-- The rest of the units follows from its length.
 pub left-beyond : {X : Type 0} (us rest left : List X) (n : ℕ) → length rest ≤ length us → rest ≡ drop (length us - length rest) us → left ≡ drop n rest → length left + n ≡ length rest → left ≡ drop (length us - length left) us
 left-beyond us rest left n within is next shorter =
     let offset : length us - length rest + n ≡ length us - length left = omega arith in

@@ -11,7 +11,7 @@ pub record AreStored (f : ℕ → List ℕ) (width : ℕ) (us old new : List ℕ
   pub prefix : take (width * k) new ≡ flat_map f (take k us)
   pub beyond : drop (width * k) new ≡ drop (width * k) old
 
--- The bytes of one more unit.
+-- If the bytes of one more unit are stored, the bytes of one unit more are stored.
 next-unit : (f : ℕ → List ℕ) (width : ℕ) (us old xs ys bytes : List ℕ) (k : ℕ) → k < length us → AreStored f width us old xs k → bytes ≡ f (get_or us k 0)
     → take (width * k + width) ys ≡ take (width * k) xs ++ bytes → drop (width * k + width) ys ≡ drop (width * k + width) xs → AreStored f width us old ys (k + 1)
 next-unit f width us old xs ys bytes k some before is stored compressed =

@@ -58,7 +58,7 @@ len32-all : (us : List ℕ) → IsWellFormed Utf32 us → length us + sum_by mor
 len32-all us well =
     sym (ap (λ cs. length (utf8 cs)) (chars32-well_formed us well) ∙ encoded32 us)
 
--- For units of either width.
+-- The length in UTF-8 of well-formed units of either width, by the bytes more than one that each adds.
 module _ (form : EncodingForm) (us vs : List ℕ) (same : us ≡ vs) (well : IsWellFormed form vs) where
   pub len-by_width16 : Utf16 ≡ form → length us + sum_by more_of_16 us ≡ length (utf8 (chars form vs))
   len-by_width16 is = rw same (subst (λ f. length vs + sum_by more_of_16 vs ≡ length (utf8 (chars f vs))) is (len16 vs (subst (λ f. IsWellFormed f vs) (sym is) well)))

@@ -112,7 +112,7 @@ module _ (bs : List ℕ) (text : IsUtf8 bs) (some : 0 < length bs) where
       by (three c rest scalar tail from below same) = absurd (omega (arith, byte same 0, high, below))
       by (four c rest scalar tail from below same) = omega (arith, byte same 0, byte same 1, byte same 2, byte same 3, from, below)
 
-  -- The least number of bytes.
+  -- The text has at least as many bytes as the first character, by its leading byte.
   pub wide : (0x80 ≤ get_or bs 0 0 → 1 < length bs) × (0xE0 ≤ get_or bs 0 0 → 2 < length bs) × (0xF0 ≤ get_or bs 0 0 → 3 < length bs)
   wide = by (shape bs text some)
     where
@@ -122,7 +122,7 @@ module _ (bs : List ℕ) (text : IsUtf8 bs) (some : 0 < length bs) where
       by (three c rest scalar tail from below same) = (λ high. omega (arith, ap length same), λ high. omega (arith, ap length same), λ high. absurd (omega (arith, byte same 0, high, below)))
       by (four c rest scalar tail from below same) = (λ high. omega (arith, ap length same), λ high. omega (arith, ap length same), λ high. omega (arith, ap length same))
 
-  -- What holds for its bytes.
+  -- What holds for the bytes of the first character.
   pub parts : FirstBytes bs
   parts = by (shape bs text some)
     where

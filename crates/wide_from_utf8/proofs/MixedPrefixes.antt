@@ -151,7 +151,8 @@ module _ (form : EncodingForm) where
       ∙ ap (λ us. v ∷ us) (begun-skip (suc n) c (d ∷ ds) (begins-trails c (bytes.second (omega arith))) ∙ begun-skip n d ds (begins-trails d (bytes.third from))) in
       moved all _ _ _ (suc (suc (suc n)) + trailing_len (drop n ds)) (omega arith) units prefix
 
-  -- By recursion over the characters. `fuel` bounds the number of bytes that are left.
+  -- The units of the characters that begin at the first bytes, by recursion over the characters. `fuel` bounds the
+  -- number of bytes that are left.
   prefixes : (fuel n : ℕ) (bs : List ℕ) → n ≤ fuel → IsUtf8 bs → n ≤ length bs → Shorts n bs → Front n bs
   prefixes fuel zero bs few text within short = moved bs _ _ 0 (0 + trailing_len bs) (omega (arith, trailing-none bs text)) refl (prefix_units-none form bs text)
   prefixes zero (suc n) bs few text within short = absurd (omega arith)
@@ -267,7 +268,7 @@ compressed-append (x ∷ xs) ys z =
       | inr none ↦ (let even : z % 2 ≡ 0 = omega arith in compressed-clear z (z / 2) x (xs ++ ys) even refl ∙ rest ∙ ap (λ zs. zs ++ compressed_lanes (z / 2 ^ suc n) ys) (sym (compressed-clear z (z / 2) x xs even refl)))
     ]
 
--- Both halves of sixteen lanes.
+-- Compressing sixteen lanes is compressing the first eight, and then the last eight.
 compressed-halves : (z : ℕ) (bs : List ℕ) → 16 ≤ length bs → compressed_lanes (z % 256) (codes_at 8 bs) ++ compressed_lanes (z / 256) (codes_at 8 (drop 8 bs)) ≡ compressed_lanes z (codes_at 16 bs)
 compressed-halves z bs long =
     let prefix = codes_at 8 bs in

@@ -45,7 +45,7 @@ module _ (form : EncodingForm) where
       let more = prefix_units-ascii n bs first.rest (omega arith) (λ k before. ascii (suc k) (omega arith)) in
       record { units = first.units ∙ ap (λ us. us ++ encode form (str_chars bs)) (one_unit-plain form b (omega arith)) ∙ ap (λ us. b ∷ us) more.units; rest = more.rest }
 
-  -- Characters of three bytes each.
+  -- The units of characters of three bytes each, at the beginning of text.
   pub prefix_units-threes : (m n : ℕ) (bs : List ℕ) → IsUtf8 bs → n ≡ 3 * m → ((k : ℕ) → k < m → LeadsThree (get_or bs (3 * k) 0)) → IsPrefixUnits form bs n (take m (codes_of_three bs)) × ((k : ℕ) → k < m → IsScalar (get_or (codes_of_three bs) k 0))
   prefix_units-threes zero n bs text long leading = (subst (λ p. IsPrefixUnits form bs p []) {x = 0} {y = n} (omega arith) (prefix_units-none bs text), λ k before. absurd (omega arith))
   prefix_units-threes (suc m) n [] text long leading = (let lead = leading 0 (omega arith) in absurd (omega (arith, lead.0)))
@@ -88,7 +88,7 @@ module _ (form : EncodingForm) where
         rest = subst (λ ds. IsUtf8 ds) rest back.rest;
       }
 
-  -- One character, and some ASCII characters.
+  -- The units of one character, or of some ASCII characters, at the beginning of text.
   pub decoded-char : (bs before after : List ℕ) (c n : ℕ) → IsUtf8 bs → StartsWithChar bs c n → after ≡ before ++ code_units form c → IsDecoded form bs n before after
   decoded-char bs before after c n text first more = joined bs before after (code_units form c) n more (prefix_units-char bs c n text first)
 

@@ -38,10 +38,11 @@ module _ {D E : Type 0} {steps : D → Option (Result ℕ E) → D → Type 0} w
   ]
 
 module _ {D E : Type 0} (steps : D → Option (Result ℕ E) → D → Type 0) (s t : Source D) where
-  -- A run of faults was read, from the front or the back.
+  -- A run of faults was read from the front.
   pub record PassedFirst : Type 0 where
     pub at : (number : E → ℕ) (rest : D → List Item) → GivesFirstItem steps number rest → (run : List ℕ) × (left_in_source rest s ≡ map Fault run ++ left_in_source rest t)
 
+  -- A run of faults was read from the back.
   pub record PassedLast : Type 0 where
     pub at : (number : E → ℕ) (rest : D → List Item) → GivesLastItem steps number rest → (run : List ℕ) × (left_in_source rest s ≡ left_in_source rest t ++ map Fault run)
 
@@ -104,7 +105,7 @@ by-prefix_char p is c = lossy_by-at_char p [] is c ∙ ap (λ l. l ++ c ∷ loss
 by-back_char : (p : Policy) (is : List Item) (c : ℕ) → lossy_by p (is ++ Char c ∷ []) ≡ lossy_by p is ++ c ∷ []
 by-back_char p is c = lossy_by-at_char p is [] c ∙ ap (λ l. lossy_by p is ++ c ∷ l) (by-nil p)
 
--- A fault first, whatever follows it.
+-- Lossy text of items that begin with a fault: what the policy yields for it, and the text of the others after a fault.
 by-fault : (p : Policy) (u : ℕ) (is : List Item) (r : Option ℕ) → replacement p false ≡ r → lossy_by p (Fault u ∷ is) ≡ option_to_list r ++ lossy_after p true is
 by-fault p u is None e = sym (lossy_after-none p (Fault u ∷ is)) ∙ lossy_after-dropped p false u is e
 by-fault p u is (Some c) e = sym (lossy_after-none p (Fault u ∷ is)) ∙ lossy_after-replaced p false u c is e
@@ -131,14 +132,15 @@ by-run_end : (p : Policy) (us : List ℕ) (u : ℕ) (r : Option ℕ) → replace
 by-run_end p [] u r e none = by-run p u [] r e none
 by-run_end p (v ∷ us) u r e none = ap (λ is. lossy_by p (Fault v ∷ is)) (sym (map-append Fault us (u ∷ []))) ∙ by-run p v (us ++ u ∷ []) r e none
 
--- A run of faults up to a character, or to the end.
+-- A run of faults from the front up to a character, or to the end.
 abbrev FirstRow : List Item → Option ℕ → List Item → Type 0
 FirstRow mid r js = (run : List ℕ) × MatchOption r ((mid ≡ map Fault run) × (js ≡ [])) (λ c. mid ≡ map Fault run ++ Char c ∷ js)
 
+-- A run of faults from the back up to a character, or to the beginning.
 abbrev LastRow : List Item → Option ℕ → List Item → Type 0
 LastRow mid r js = (run : List ℕ) × MatchOption r ((mid ≡ map Fault run) × (js ≡ [])) (λ c. mid ≡ js ++ Char c ∷ map Fault run)
 
--- From the front.
+-- What is left at the end of the items, from the front.
 end_first : (X Y : List ℕ) → X ≡ [] → Y ≡ [] → (b : Option ℕ) → MatchOption b ((X ++ option_to_list b ≡ []) × (Y ++ [] ≡ [])) (λ x. X ++ option_to_list b ≡ x ∷ (Y ++ []))
 end_first X Y e f None = (ap (λ l. l ++ []) e, ap (λ l. l ++ []) f)
 end_first X Y e f (Some x) = ap (λ l. l ++ x ∷ []) e ∙ ap (λ l. x ∷ (l ++ [])) (sym f)
@@ -154,7 +156,7 @@ module _ (p : Policy) (is mid js : List Item) (b : Option ℕ) where
   pub each_first : (u c : ℕ) → replacement p false ≡ Some c → is_some (replacement p true) ≡ true → is ≡ Fault u ∷ js → left None p is b ≡ c ∷ left None p js b
   each_first u c e f g = ap (λ l. lossy_by p l ++ option_to_list b) g ∙ ap (λ l. l ++ option_to_list b) (by-fault p u js (Some c) e ∙ ap (λ l. c ∷ l) (after_same p c (replacement p true) e refl f true js))
 
-  -- Whatever is yielded for the run of faults.
+  -- Lossy text of a run of faults and a character after it, whatever is yielded for the run.
   beyond_run : (u c : ℕ) (r : Option ℕ) → replacement p false ≡ r → is_some (replacement p true) ≡ false → is ≡ Fault u ∷ mid → FirstRow mid (Some c) js → left None p is b ≡ option_to_list r ++ left (Some c) p js b
   beyond_run u c r e f g (run, h) =
       ap (λ l. lossy_by p l ++ option_to_list b) (g ∙ ap (λ l. Fault u ∷ l) h)
@@ -177,7 +179,7 @@ module _ (p : Policy) (is mid js : List Item) (b : Option ℕ) where
   pub at_end : is ≡ [] → js ≡ [] → MatchOption b ((left None p is b ≡ []) × (left None p js None ≡ [])) (λ x. left None p is b ≡ x ∷ left None p js None)
   at_end e f = end_first (lossy_by p is) (lossy_by p js) (ap (lossy_by p) e ∙ by-nil p) (ap (lossy_by p) f ∙ by-nil p) b
 
--- From the back.
+-- What a call from the back yields.
 module _ (p : Policy) (is mid js : List Item) (f : Option ℕ) where
   placed : (X Z : List ℕ) (c : ℕ) → X ≡ Z ++ c ∷ [] → (option_to_list f ++ X) ++ [] ≡ (option_to_list f ++ Z) ++ c ∷ []
   placed X Z c e = append-nil (option_to_list f ++ X) ∙ ap (λ l. option_to_list f ++ l) e ∙ sym (append_assoc (option_to_list f) Z (c ∷ []))
@@ -197,7 +199,7 @@ module _ (p : Policy) (is mid js : List Item) (f : Option ℕ) where
       ∙ ap (λ l. l ++ lossy_after p (ends_in_fault false js) (Fault u ∷ [])) (lossy_after-none p js)
       ∙ ap (λ l. lossy_by p js ++ l) (after_same p c (replacement p true) e refl h (ends_in_fault false js) (Fault u ∷ []) ∙ by-fault p u [] (Some c) e ∙ ap (λ l. c ∷ l) (lossy_after-none_left p true)))
 
-  -- Whatever is yielded for the run of faults.
+  -- Lossy text of a character and a run of faults after it, whatever is yielded for the run.
   before_run : (u c : ℕ) (r : Option ℕ) → replacement p false ≡ r → is_some (replacement p true) ≡ false → is ≡ mid ++ Fault u ∷ [] → LastRow mid (Some c) js → lossy_by p is ≡ (lossy_by p js ++ c ∷ []) ++ option_to_list r
   before_run u c r e h g (run, k) =
       ap (lossy_by p) (g ∙ ap (λ l. l ++ Fault u ∷ []) k ∙ append_assoc js (Char c ∷ map Fault run) (Fault u ∷ []))

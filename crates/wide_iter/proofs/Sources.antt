@@ -31,7 +31,7 @@ module _ {A : Type 0} where
   copied_gives_last = record { at = λ s r t f h. subst (λ v. YieldsLast copied_rest s v t) (sym h.2) (copied_last s t h.0 h.1) }
 
 module _ {S A : Type 0} (rest : S → List A) where
-  -- An iterator whose contract says what is left.
+  -- An iterator whose contract says what is left is a source of that list.
   pub itself_first : {Fits : A → Type 0} → GivesFirst Fits (YieldsFirst rest) rest
   itself_first = record { at = λ s r t f h. h }
 
@@ -39,7 +39,7 @@ module _ {S A : Type 0} (rest : S → List A) where
   itself_last = record { at = λ s r t f h. h }
 
 module _ {A Z : Type 0} where
-  -- A `Vec` by value.
+  -- A `Vec` by value is a source of its elements.
   vec_first : (s t : IntoIter A Z) (r : Option A) → into_iter_steps s r t → YieldsFirst into_iter_items s r t
   vec_first s t None h = (nil_from_length (into_iter_items s) (omega arith), nil_from_length (into_iter_items t) (omega arith))
   vec_first s t (Some x) h = h.0
@@ -54,6 +54,6 @@ module _ {A Z : Type 0} where
   pub vec_gives_last : {Fits : A → Type 0} → GivesLast Fits (into_iter_steps_back {X = A} {Z = Z}) into_iter_items
   vec_gives_last = record { at = λ s r t f h. vec_last s t r h }
 
--- The characters of a text.
+-- `chars()` of a text is a source of its characters.
 pub text_gives_first : GivesFirst IsScalar chars_steps text_rest
 text_gives_first = record { at = λ s r t f h. text_first s t r f h }

@@ -14,7 +14,7 @@ module _ (form : EncodingForm) (all rest : List ℕ) where
   pub none_left : all ≡ [] → rest ≡ [] → (items form all ≡ []) × (items form rest ≡ [])
   none_left e f = (ap (λ us. items form us) e ∙ items-nil form, ap (λ us. items form us) f ∙ items-nil form)
 
-  -- From the front: `mid` are left after the first unit was read.
+  -- What a call from the front yields: `mid` are left after the first unit was read.
   pub first_char : (u c : ℕ) → all ≡ u ∷ rest → IsScalar c × (code_units form c ≡ u ∷ []) → items form all ≡ Char c ∷ items form rest
   first_char u c e made = items-first_char form all rest u c e made.0 made.1
 
@@ -35,7 +35,7 @@ module _ (form : EncodingForm) (all rest : List ℕ) where
       let split : all ≡ u ∷ rest = e ∙ ap (λ us. u ∷ us) (f ∙ sym g) in
       items-first_fault form all rest u split fault (λ l back h pair. let at : l ≡ v = cc in apart (rw at at pair)) ∙ ap (λ w. Fault w ∷ items form rest) (sym same)
 
-  -- From the back.
+  -- What a call from the back yields: `mid` are left after the last unit was read.
   pub last_char : (u c : ℕ) → all ≡ rest ++ u ∷ [] → IsScalar c × (code_units form c ≡ u ∷ []) → items form all ≡ items form rest ++ Char c ∷ []
   last_char u c e made = items-last_char form all rest u c e made.0 made.1
 

@@ -8,7 +8,7 @@ use Rattle.wide_forms.specs.EncodingForm.{EncodingForm, code_units, encode}
 use Rattle.wide_forms.specs.Laws.Encodings.{offsets-grow}
 
 module _ (form : EncodingForm) where
-  -- The length in units of characters, and of the first of them.
+  -- The length in units of characters.
   abbrev pub size : List ℕ → ℕ
   size l = length (encode form l)
 

@@ -32,7 +32,7 @@ next_char cs read c rest e =
       at = ap (size Utf16) (take_more cs read 0 lt ∙ ap (λ d. take read cs ++ d ∷ []) same) ∙ size-append Utf16 (take read cs) (c ∷ []) ∙ ap (λ n. size Utf16 (take read cs) + n) (size-one Utf16 c);
     }
 
--- The first entries.
+-- The entries of a prefix of the index are its first entries.
 pub some-length : (cs : List ℕ) (ms : List ℕ) → ms ≡ take (length ms) (index_entries cs) → length ms ≤ length cs / 64
 some-length cs ms e = omega (arith, ap length e, length-take (length ms) (index_entries cs), length-map-range_with_len (index_entry cs) 1 (length cs / 64))
 

@@ -39,7 +39,7 @@ module _ (form : EncodingForm) (us : List ℕ) (i : ℕ) where
   found_none (Some a) found e le = absurd cc
   found_none None found e le = let f = found.some.1 le in absurd cc
 
--- A range of no units.
+-- A range of no units is a range of no characters.
 pub no_units : (form : EncodingForm) (us : List ℕ) (at : ℕ) → IsCharBoundary form us at → IsCharRange form us at at
 no_units form us at here = record { within = record { forward = omega arith; within = here.0 }; start = here; end = here }
 

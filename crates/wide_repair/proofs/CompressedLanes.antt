@@ -15,12 +15,13 @@ use Rattle.wide_forms.proofs.Tables.{eight, every, every-at, high-byte, is-same,
 
 -- ---- the table
 
--- `paired_text`: the lanes of byte indices, two for each lane. `doubles`: the byte indices of lanes.
+-- The lanes of byte indices, two indices for each lane.
 abbrev paired_text : List ℕ → List ℕ
 paired_text [] = []
 paired_text (p ∷ []) = []
 paired_text (p ∷ q ∷ ps) = (p / 2) ∷ paired_text ps
 
+-- The byte indices of lanes, two for each lane.
 abbrev doubles : List ℕ → List ℕ
 doubles [] = []
 doubles (p ∷ ps) = (2 * p) ∷ (2 * p + 1) ∷ doubles ps

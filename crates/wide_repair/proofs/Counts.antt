@@ -19,7 +19,7 @@ length-chars16 us well =
 
 -- ---- counted block by block
 
--- Block i of the first n blocks.
+-- Block i of the first n blocks is a slice of the list.
 pub block_at : {X : Type 0} (n : ℕ) (k i : ℕ) (xs : List X) (d : List X) → i < k → get_or (first_chunks n k xs) i d ≡ take n (drop (i * n) xs)
 block_at n zero i xs d l = absurd (omega arith)
 block_at n (suc k) zero xs d l = rw zero-mul refl

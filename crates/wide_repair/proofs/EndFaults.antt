@@ -32,7 +32,7 @@ only u h (x ∷ y ∷ prefix) e = absurd cc
 last : (after : Bool) (us prefix : List ℕ) (i : Item) → items Utf16 us ≡ items Utf16 prefix ++ i ∷ [] → ends_in_fault after (items Utf16 us) ≡ ends_in_fault (ends_in_fault after (items Utf16 prefix)) (i ∷ [])
 last after us prefix i e = ap (λ is. ends_in_fault after is) e ∙ ends_in_fault-append after (items Utf16 prefix) (i ∷ [])
 
--- What a surrogate is, by its test, or by its upper bits.
+-- A unit is a surrogate if its test says so, or by its upper bits.
 is-high : (u : ℕ) → is_high u ≡ true → IsHighSurrogate Utf16 u
 is-high u e = (grind (arith, e), grind (arith, e))
 

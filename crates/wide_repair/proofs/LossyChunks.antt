@@ -35,7 +35,7 @@ module _ (policy : Policy) where
       ap (λ is. encode Utf16 (lossy_after policy after is)) (items-append Utf16 a b cut) ∙ ap (encode Utf16) (lossy_after-append policy after left right)
       ∙ flat_map-append (code_units Utf16) (lossy_after policy after left) (lossy_after policy (ends_in_fault after left) right)
 
-  -- One more chunk.
+  -- The lossy text of one more chunk was written.
   pub chunk-passed : (all before now : List ℕ) (after next : Bool) (rest chunk back : List ℕ) (n : ℕ) → all ≡ before ++ lossy_units policy after rest → chunk ≡ take n rest → back ≡ drop n rest → IsCut Utf16 (take n rest) (drop n rest)
       → next ≡ ends_in_fault after (items Utf16 chunk) → now ≡ before ++ lossy_units policy after chunk → all ≡ now ++ lossy_units policy next back
   chunk-passed all before now after next rest chunk back n so_far first second cut flag put =
@@ -46,7 +46,7 @@ module _ (policy : Policy) where
       in
       so_far ∙ ap (λ us. before ++ us) parts ∙ sym (append_assoc before (lossy_units policy after chunk) (lossy_units policy next back)) ∙ ap (λ us. us ++ lossy_units policy next back) (sym put)
 
-  -- No units are left.
+  -- When no units are left, all lossy text was written.
   pub all-chunks : (all now : List ℕ) (after : Bool) (us : List ℕ) → length us ≡ 0 → all ≡ now ++ lossy_units policy after us → now ≡ all
   all-chunks all now after [] none so_far = sym (so_far ∙ ap (λ us. now ++ us) (ap (encode Utf16) (ap (lossy_after policy after) (items-nil Utf16) ∙ lossy_after-none_left policy after)) ∙ append-nil now)
   all-chunks all now after (u ∷ us) none so_far = absurd (omega arith)

@@ -15,7 +15,7 @@ use Rattle.wide_forms.specs.Laws.Utf32.{encode32, items32-char, items32-fault}
 use Rattle.wide_forms.specs.declared.policy.Policy.{Policy}
 use Rattle.wide_repair.specs.Repaired.{repaired_scalar}
 
--- A unit that is a fault, and one that is a character.
+-- A unit that is no scalar value is a fault, and any other is a character.
 no_scalar : (u : ℕ) → is_no_scalar u ≡ true → ¬ (IsScalar u)
 no_scalar u is scalar = grind (arith, is, scalar)
 
@@ -51,7 +51,7 @@ module _ (policy : Policy) (after : Bool) (u : ℕ) (us : List ℕ) where
     | inr isnt ↦ rw (isnt, same u) (ap (ends_in_fault after) (items32-char u us (scalar u isnt)))
   ]
 
--- One more unit.
+-- What was written and whether a fault was read last, after one more unit.
 pub state-passed : (policy : Policy) (after was : Bool) (us : List ℕ) (k : ℕ) → k < length us → ends_in_fault after (items Utf32 us) ≡ ends_in_fault was (items Utf32 (drop k us))
     → ends_in_fault after (items Utf32 us) ≡ ends_in_fault (not (eqb (repaired_scalar (get_or us k 0)) (get_or us k 0))) (items Utf32 (drop (k + 1) us))
 state-passed policy after was us k within so_far = so_far ∙ ap (λ us. ends_in_fault was (items Utf32 us)) (drop_more us k 0 within) ∙ unit-state policy was (get_or us k 0) (drop (k + 1) us)
@@ -64,7 +64,7 @@ unit-passed policy after was us before now k within so_far put =
     so_far ∙ ap (λ us. before ++ lossy_after policy was (items Utf32 us)) (drop_more us k 0 within) ∙ ap (λ cs. before ++ cs) (unit-written policy was u (drop (k + 1) us))
     ∙ sym (append_assoc before (written policy was u) rest) ∙ ap (λ cs. cs ++ rest) (sym put)
 
--- All units.
+-- What was written and whether a fault was read last, after all units.
 pub all-states : (after was : Bool) (us : List ℕ) (k : ℕ) → length us ≤ k → ends_in_fault after (items Utf32 us) ≡ ends_in_fault was (items Utf32 (drop k us)) → was ≡ ends_in_fault after (items Utf32 us)
 all-states after was us k all so_far = sym (so_far ∙ ap (λ us. ends_in_fault was (items Utf32 us)) (drop_all k us all) ∙ ap (ends_in_fault was) (items-nil Utf32))
 

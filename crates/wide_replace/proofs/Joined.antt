@@ -30,16 +30,16 @@ joined_next left with needle part [] some = absurd (omega (arith, some))
 joined_next left with needle part (next ∷ more) some = refl
 
 module _ (with needle rest : List ℕ) where
-  -- Nothing more is replaced.
+  -- If nothing more is replaced, the rest is appended as it is.
   pub joined-none : (done new : List ℕ) → new ≡ done ++ rest → (left : ℕ) → left ≡ 0 → new ≡ done ++ joined_first left with needle (substrings needle rest)
   joined-none done new pushed zero none = pushed ∙ ap (λ us. done ++ us) (sym (whole-joined needle rest))
   joined-none done new pushed (suc left) none = absurd (omega (arith, none))
 
-  -- The needle occurs no more.
+  -- If the needle does not occur any more, the rest is the last substring.
   pub joined-last : (done new : List ℕ) → new ≡ done ++ rest → substrings needle rest ≡ rest ∷ [] → (left : ℕ) → new ≡ done ++ joined_first left with needle (substrings needle rest)
   joined-last done new pushed last left = pushed ∙ ap (λ us. done ++ us) (sym (ap (joined_first left with needle) last ∙ joined_alone left with needle rest))
 
-  -- One occurrence more is replaced.
+  -- If one occurrence more is replaced, the substring before it and the replacement are appended.
   pub joined-one_more : (before after done so_far new : List ℕ) → substrings needle rest ≡ before ∷ substrings needle after → so_far ≡ done ++ before → new ≡ so_far ++ with → (left : ℕ) → 0 < left
       → done ++ joined_first left with needle (substrings needle rest) ≡ new ++ joined_first (left - 1) with needle (substrings needle after)
   joined-one_more before after done so_far new cut one two zero some = absurd (omega (arith, some))
@@ -52,7 +52,7 @@ pub on_ok : {T E P Q : Type 0} (result : Result T E) → (P → Q) → OnOk resu
 on_ok (Ok x) f p = f p
 on_ok (Err e) f p = p
 
--- At least as many occurrences are replaced as there are.
+-- If at least as many occurrences are replaced as there are, all are.
 pub joined-all : (count : ℕ) (with needle : List ℕ) (parts : List (List ℕ)) → length parts ≤ count + 1 → joined_first count with needle parts ≡ joined_with with parts
 joined-all zero with needle [] few = refl
 joined-all zero with needle (part ∷ []) few = refl

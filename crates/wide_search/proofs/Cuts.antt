@@ -7,7 +7,7 @@ use Rattle.wide_search.specs.Factorizations.{IsFactorization}
 use Rattle.wide_search.specs.declared.factorization.Factorization.{Factorization}
 
 module _ (lt : ℕ → ℕ → Type 0) (irreflexive : (a : ℕ) → lt a a → ⊥) (trans : (a b c : ℕ) → lt a b → lt b c → lt a c) where
-  -- What differs first by a lesser number does not differ first by a greater one.
+  -- A suffix that differs from another first by a lesser number does not differ first by a greater one.
   unbeaten : (x : ℕ → ℕ) (m s c a : ℕ) → IsBeaten lt x m s c → ((t : ℕ) → t < a → x (c + t) ≡ x (s + t)) → s + a < m → lt (x (c + a)) (x (s + a)) → ⊥
   unbeaten x m s c a is same room less = elim (cases_lt a is.at) [
     | inl earlier ↦ irreflexive (x (s + a)) (subst (λ n. lt n (x (s + a))) (sym (is.same a earlier)) less)
@@ -21,7 +21,7 @@ module _ (lt : ℕ → ℕ → Type 0) (irreflexive : (a : ℕ) → lt a a → �
   ]
 
   module _ (x : ℕ → ℕ) (m l p : ℕ) (is : IsSuffixAt lt x m l p) where
-    -- No repeat at its beginning goes back into what is before it.
+    -- No repeat at the beginning of the greatest suffix reaches into what is before the suffix.
     pub no-repeat-before : (d : ℕ) → 0 < d → d ≤ l → IsRepeat x m l d → ⊥
     no-repeat-before d some le repeat =
         let s = l - d in
@@ -49,7 +49,7 @@ module _ (lt : ℕ → ℕ → Type 0) (irreflexive : (a : ℕ) → lt a a → �
 module _ (lt gt : ℕ → ℕ → Type 0) (irreflexive : (a : ℕ) → lt a a → ⊥) (trans : (a b c : ℕ) → lt a b → lt b c → lt a c)
     (irreflexive-gt : (a : ℕ) → gt a a → ⊥) (trans-gt : (a b c : ℕ) → gt a b → gt b c → gt a c) (turned : (a b : ℕ) → lt a b → gt b a)
     (x : ℕ → ℕ) (m l p : ℕ) (is : IsSuffixAt lt x m l p) (k q : ℕ) (other : IsSuffixAt gt x m k q) (earlier : k ≤ l) where
-  -- No repeat there is at less than its period.
+  -- No repeat at the beginning of the later greatest suffix is at less than the period of that suffix.
   pub no-repeat-below : (d : ℕ) → 0 < d → d < p → IsRepeat x m l d → ⊥
   no-repeat-below d some small repeat = elim (cases_lt l d) [
     | inr near ↦ no-repeat-before lt irreflexive trans x m l p is d some near repeat

@@ -76,7 +76,7 @@ module _ {X : Type 0} (number : X → ℕ) where
         none-passed needle us rest u at n (offset - at) e none (omega (arith, l, later)) (subst (λ k. OccursAt needle us k) same occurs))
   ]
 
-  -- For a slice of what is left, and the number of the unit.
+  -- The needle does not occur in what is left if the number of its first unit does not.
   module _ (needle us tail left : List X) (u : X) (v at : ℕ) (e : needle ≡ u ∷ tail) (code : v ≡ number u) (rest : left ≡ drop at us) (before : (earlier : ℕ) → earlier < at → ¬ (OccursAt needle us earlier)) where
     pub none-reported : All (λ x. number x ≢ v) left → OccursNowhere needle us
     none-reported all = none-left needle us tail u at e (subst (λ n. All (λ x. number x ≢ n) (drop at us)) code (subst (All (λ x. number x ≢ v)) rest all)) before
@@ -84,13 +84,14 @@ module _ {X : Type 0} (number : X → ℕ) where
     pub before-reported : (n : ℕ) → All (λ x. number x ≢ v) (take n left) → (offset : ℕ) → offset < at + n → ¬ (OccursAt needle us offset)
     before-reported n all = none-before needle us tail u at n e (subst (λ m. All (λ x. number x ≢ m) (take n (drop at us))) code (subst (λ xs. All (λ x. number x ≢ v) (take n xs)) rest all)) before
 
-  -- Where the number of a unit stands, the units begin as a needle does that begins with it.
+  -- From an offset on at which the number is that of a unit, the units begin as a needle does that begins with this
+  -- unit.
   pub first-alike : ((x y : X) → number x ≡ number y → x ≡ y) → (u : X) (rest xs : List X) (n : ℕ) → n < length xs → slice_index (map number xs) n ≡ number u → take 1 (u ∷ rest) ≡ take 1 (drop n xs)
   first-alike same u rest [] n l is = absurd (omega (arith, l))
   first-alike same u rest (x ∷ xs) zero l is = ap (λ y. y ∷ []) (same u x (sym is))
   first-alike same u rest (x ∷ xs) (suc n) l is = first-alike same u rest xs n (omega (arith, l)) is
 
-  -- An occurrence after two splits is one after both.
+  -- An occurrence at the beginning of what two splits leave is one in the whole, and the other way round.
   pub occurs-cut : (needle us : List X) (at n : ℕ) → at + n ≤ length us → OccursAt needle (drop n (drop at us)) 0 → OccursAt needle us (at + n)
   occurs-cut needle us at n within occurs =
       let once : OccursAt needle (drop at us) (n + 0) = occurs-beyond needle (drop at us) n 0 (omega (arith, within, length-drop at us)) occurs in

@@ -23,8 +23,8 @@ module _ {A : Type 0} where
     },
   )
 
-  -- A needle occurs at the beginning of units if it is all that they have in common with it, where the units after the
-  -- length of the needle are cut off.
+  -- A needle occurs at the beginning of units if the prefix that the needle and as many units share is the whole
+  -- needle.
   pub occurs-if_begins : (needle us front : List A) (n : ℕ) → front ≡ take (length needle) us → IsCommonPrefix needle front n → OccursAt needle us 0 ↔ (n ≡ length needle)
   occurs-if_begins needle us front n cut is =
       let within : length front ≤ length us = subst (λ xs. length xs ≤ length us) (sym cut) (simp length-take (omega arith)) in

@@ -7,7 +7,8 @@ use Rattle.wide_search.specs.Probes.{are_units, BothMatchAt}
 use Rattle.std.proofs.lemmas.Bool.{cases_lt}
 
 module _ (P : ℕ → Type 0) where
-  -- It holds at none of the indices before `at`, nor at the next `step` ones.
+  -- If a property holds at no index before `at`, and at none of the next `step` ones, it holds at none before those
+  -- after them.
   pub none-further : (at step : ℕ) → ((k : ℕ) → k < at → ¬ (P k)) → ((k : ℕ) → k < step → ¬ (P (at + k))) → (k : ℕ) → k < at + step → ¬ (P k)
   none-further at step before next k l holds = elim (cases_lt k at) [
     | inl earlier ↦ before k earlier holds
@@ -20,7 +21,8 @@ module _ (P : ℕ → Type 0) where
     | inr later ↦ next k later l holds
   ]
 
-  -- It holds at none of the indices from `end` on, nor at those from `start + step` up to it.
+  -- If a property holds at no index from `end` on, and at none of those before `end` from a number on, it holds at none
+  -- from that number on.
   pub none-back : (start step end most : ℕ) → start + step ≤ end → ((k : ℕ) → end ≤ k → k < most → ¬ (P k)) → ((k : ℕ) → step ≤ k → start + k < end → ¬ (P (start + k))) → (k : ℕ) → start + step ≤ k → k < most → ¬ (P k)
   none-back start step end most within beyond next k le l holds = elim (cases_lt k end) [
     | inl below ↦ (let e : k ≡ start + (k - start) = omega (arith, le) in next (k - start) (omega (arith, le)) (omega (arith, le, below)) (subst P e holds))
@@ -45,7 +47,7 @@ number-at number [] k d l = absurd (omega (arith, l))
 number-at number (x ∷ xs) zero d l = refl
 number-at number (x ∷ xs) (suc k) d l = number-at number xs k d (omega (arith, l))
 
--- The two units do not stand where a test says that they do not.
+-- If a test says that the two units do not match at an index, they do not.
 pub apart : {X : Type 0} (number : X → ℕ) (front back : List X) (first last k : ℕ) (u v : X) (equal : Bool) → k < length front → k < length back → u ≡ get_or front k u → v ≡ get_or back k v
     → equal ≡ are_units first last (number u) (number v) → equal ≡ false → ¬ (BothMatchAt first last (map number front) (map number back) k)
 apart number front back first last k u v equal l l2 at at2 tested none holds =
@@ -54,7 +56,7 @@ apart number front back first last k u v equal l l2 at at2 tested none holds =
     let h : are_units first last (number u) (number v) ≡ true = subst (λ n. are_units first last (number u) n ≡ true) e2 (subst (λ n. are_units first last n (get_or (map number back) k 0) ≡ true) e holds) in
     cc (tested, none, h)
 
--- Units of either width, as units of their width.
+-- What matches in units of one width matches in these units as units of either width.
 pub stand-as : (first last v w : ℕ) (xs ys us vs : List ℕ) (k : ℕ) → v ≡ first → w ≡ last → us ≡ xs → vs ≡ ys → BothMatchAt first last xs ys k → BothMatchAt v w (map (λ u. u) us) (map (λ u. u) vs) k
 stand-as first last v w xs ys us vs k e e2 e3 e4 holds =
     let here : BothMatchAt v w us vs k = subst (λ n. BothMatchAt v n us vs k) (sym e2) (subst (λ n. BothMatchAt n last us vs k) (sym e) (subst (λ zs. BothMatchAt first last us zs k) (sym e4) (subst (λ zs. BothMatchAt first last zs ys k) (sym e3) holds))) in
@@ -64,13 +66,13 @@ is_false : (b : Bool) → not b ≡ true → b ≡ false
 is_false true none = cc
 is_false false none = refl
 
--- The two do not stand where the first one does not.
+-- If the first of two units does not match at an index, both do not.
 pub alone-apart : (first last k : ℕ) (us ws : List ℕ) → is_unit first (get_or us k 0) ≡ false → ¬ (BothMatchAt first last us ws k)
 alone-apart first last k us ws none holds =
     let h : (false && is_unit last (get_or ws k 0)) ≡ true = subst (λ b. (b && is_unit last (get_or ws k 0)) ≡ true) none holds in
     cc (h)
 
--- The units at an index of a part of both lists are those at an index of the lists.
+-- The units at an index of a slice of both lists are those at an index of the lists.
 module _ {X : Type 0} (number : X → ℕ) where
   part-at : (xs : List X) (at n k : ℕ) → k < n → get_or (map number (take n (drop at xs))) k 0 ≡ get_or (map number xs) (at + k) 0
   part-at xs at n k l =

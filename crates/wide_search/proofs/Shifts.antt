@@ -42,13 +42,14 @@ module _ (x : ℕ → ℕ) (m : ℕ) (parts : Factorization) (is : IsFactorizati
   multiple d some fits repeat = multiple-to d d (omega arith) some fits repeat
 
   module _ (h : ℕ → ℕ) (n at : ℕ) where
-    -- An occurrence further on is a repeat, if enough of the second part stands here.
+    -- An occurrence at a later offset is a repeat, if enough of the second part matches at this offset.
     repeat-of : (i d : ℕ) → ((j : ℕ) → parts.cut ≤ j → j < i → h (at + j) ≡ x j) → ((k : ℕ) → k < parts.cut → k + d < m → k + d < i) → OccursIn x m h n (at + d) → IsRepeat x m parts.cut d
     repeat-of i d same near occurs = λ k below reach within.
         let e : at + d + k ≡ at + (k + d) = omega arith in
         sym (occurs.reads k (omega (arith, within))) ∙ ap h e ∙ same (k + d) reach (near k below within)
 
-    -- A difference in the second part.
+    -- If the second part differs at an index, the needle does not occur at the next offsets, one for each unit
+    -- compared.
     pub none-until : (i : ℕ) → parts.cut ≤ i → i < m → ((j : ℕ) → parts.cut ≤ j → j < i → h (at + j) ≡ x j) → h (at + i) ≢ x i
         → (k : ℕ) → at ≤ k → k < at + (i - parts.cut + 1) → ¬ (OccursIn x m h n k)
     none-until i after within same differ k le l occurs = elim (cases_lt at k) [
@@ -66,7 +67,7 @@ module _ (x : ℕ → ℕ) (m : ℕ) (parts : Factorization) (is : IsFactorizati
           differ (sym (ap (λ a. h (a + i)) e) ∙ occurs.reads i within))
     ]
 
-    -- All of the second part stands here, and the first part differs.
+    -- All of the second part matches at an offset, and the first part differs.
     module _ (same : (j : ℕ) → parts.cut ≤ j → j < m → h (at + j) ≡ x j) (j : ℕ) (below : j < parts.cut) (differ : h (at + j) ≢ x j) where
       repeat-after : (k : ℕ) → at < k → OccursIn x m h n k → IsRepeat x m parts.cut (k - at)
       repeat-after k further occurs =
@@ -96,7 +97,7 @@ module _ (x : ℕ → ℕ) (m : ℕ) (parts : Factorization) (is : IsFactorizati
         | inr here ↦ not-here k le here occurs
       ]
 
-    -- If the period is one of the whole needle, what is known a period further.
+    -- If the period is one of the whole needle, units that match at an offset also match a period later.
     pub known-after : IsRepeat x m parts.cut parts.period → ((j : ℕ) → parts.cut ≤ j → j < m → h (at + j) ≡ x j) → (j : ℕ) → j < m - parts.period → h (at + parts.period + j) ≡ x j
     known-after repeat same j l = elim (cases_lt parts.cut parts.period) [
       | inr short ↦ absurd (is.beyond parts.period is.some short repeat)
@@ -109,14 +110,14 @@ module _ (x : ℕ → ℕ) (m : ℕ) (parts : Factorization) (is : IsFactorizati
           ])
     ]
 
--- What is known of two ranges of offsets is known of both.
+-- A property that holds nowhere in two adjacent ranges of offsets holds nowhere in both together.
 pub nowhere-further : (P : ℕ → Type 0) (from at end : ℕ) → ((k : ℕ) → from ≤ k → k < at → ¬ (P k)) → ((k : ℕ) → at ≤ k → k < end → ¬ (P k)) → (k : ℕ) → from ≤ k → k < end → ¬ (P k)
 nowhere-further P from at end before next k le l holds = elim (cases_lt k at) [
   | inl earlier ↦ before k le earlier holds
   | inr later ↦ next k later l holds
 ]
 
--- What is known of the first indices, and of those from `start` on.
+-- A property that holds for the first indices, and for those from `start` on, holds for all from `cut` on.
 pub known-from : (P : ℕ → Type 0) (known cut start end : ℕ) → start ≤ cut + (known - cut) → ((k : ℕ) → k < known → P k) → ((k : ℕ) → start ≤ k → k < end → P k) → (k : ℕ) → cut ≤ k → k < end → P k
 known-from P known cut start end le first next k le2 l = elim (cases_lt k known) [
   | inl earlier ↦ first k earlier

@@ -29,14 +29,14 @@ module _ {X : Type 0} (number : X → ℕ) (same : (x y : X) → number x ≡ nu
   occurs-read at within reads =
       occurs-units number same needle us at (occurs-of (map number needle) (map number us) at (omega (arith, within, length-map needle number, length-map us number)) (λ j l. reads j (omega (arith, l, length-map needle number))))
 
-  -- From the beginning.
+  -- An occurrence counted from the beginning is one of the slice.
   pub occurs-front : (at : ℕ) → OccursFrom false number needle us at → OccursAt needle us at
   occurs-front at occurs = occurs-read at occurs.fits occurs.reads
 
   pub front-occurs : (at : ℕ) → OccursAt needle us at → OccursFrom false number needle us at
   front-occurs at occurs = record { fits = occurs.within; reads = reads-units at occurs }
 
-  -- From the end.
+  -- An occurrence counted from the end is one of the slice, at the offset counted from the beginning.
   pub occurs-back : (at : ℕ) → OccursFrom true number needle us at → OccursAt needle us (length us - length needle - at)
   occurs-back at occurs = occurs-read (length us - length needle - at) (omega (arith, occurs.fits)) (λ j l.
       let e : length us - 1 - (at + (length needle - 1 - j)) ≡ length us - length needle - at + j = omega (arith, l, occurs.fits) in
@@ -51,14 +51,14 @@ module _ {X : Type 0} (number : X → ℕ) (same : (x y : X) → number x ≡ nu
         ap (λ k. get_or (map number us) k 0) e ∙ reads-units at occurs (length needle - 1 - j) (omega (arith, l));
   }
 
-  -- Where a search from an offset on stopped, before which there is no occurrence.
+  -- If there is no occurrence before an offset, there is none before where a search from that offset on stopped.
   pub none-to_stop : (from at : ℕ) → ((k : ℕ) → k < from → ¬ (OccursAt needle us k)) → ((k : ℕ) → from ≤ k → k < at → ¬ (OccursFrom false number needle us k)) → (k : ℕ) → k < at → ¬ (OccursAt needle us k)
   none-to_stop from at none passed k l occurs = elim (cases_lt k from) [
     | inl earlier ↦ none k earlier occurs
     | inr later ↦ passed k later l (front-occurs k occurs)
   ]
 
-  -- From the end, where a search before `end` stopped, from which on there is no occurrence.
+  -- If there is no occurrence from `end` on, there is none from where a search from the end before it stopped.
   pub none-from_stop : (end from at : ℕ) → from + end + length needle ≡ length us + 1 → ((k : ℕ) → end ≤ k → ¬ (OccursAt needle us k)) → ((k : ℕ) → from ≤ k → k < at → ¬ (OccursFrom true number needle us k))
       → (k : ℕ) → from + end ≤ at + k → ¬ (OccursAt needle us k)
   none-from_stop end from at counted none passed k le occurs = elim (cases_lt k end) [

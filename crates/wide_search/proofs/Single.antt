@@ -1,4 +1,4 @@
--- A needle of one unit occurs where that unit stands.
+-- A needle of one unit occurs at the offsets of that unit.
 use Rattle.std.proofs.Common.{◌≡◌, ◌≢◌, ℕ, zero, suc, ◌<◌, List, [], ◌∷◌, refl, ap, ◌∙◌, arith, length, map, take, IfSome, IfNone}
 use Rattle.std.specs.Prelude.{Option, Some, None, slice_index}
 use Rattle.std.specs.List.{All}

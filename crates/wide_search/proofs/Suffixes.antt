@@ -1,4 +1,4 @@
--- The greatest suffix of a needle, and what the loop that finds it keeps.
+-- The greatest suffix of a needle, and the invariant of the loop that finds it.
 use Rattle.std.proofs.Common.{◌≡◌, ◌⊎◌, ℕ, zero, suc, ◌+◌, ◌-◌, ◌<◌, ◌≤◌, inl, inr, refl, sym, ap, ◌∙◌, subst, arith, eqb, cond}
 use Rattle.std.proofs.lemmas.Bool.{cases_eq, cases_lt}
 use Rattle.std.proofs.lemmas.Bool.Decides.{nat_tests}
@@ -39,7 +39,7 @@ module _ (lt : ℕ → ℕ → Type 0) where
   pub lesser-within : (x : ℕ → ℕ) (e f s c : ℕ) → e ≤ f → IsLesser lt x e s c → IsLesser lt x f s c
   lesser-within x e f s c le is = record { at = is.at; same = is.same; room = omega (arith, is.room); space = omega (arith, is.space); less = is.less }
 
-  -- What changes only from e on is less as before.
+  -- A suffix that is less before index e is less in numbers that are the same before e.
   pub lesser-same : (x y : ℕ → ℕ) (e s c : ℕ) → ((i : ℕ) → i < e → y i ≡ x i) → IsLesser lt x e s c → IsLesser lt y e s c
   lesser-same x y e s c below is = record {
     at = is.at;
@@ -80,7 +80,8 @@ module _ (lt : ℕ → ℕ → Type 0) where
   -- ---- the suffixes after the greatest one
 
   module _ (x : ℕ → ℕ) (e l p : ℕ) (is : IsLeastPeriod lt x e l p) where
-    -- A period later it is the same, as far as there are numbers.
+    -- A suffix that is less than the greatest one, or agrees with it, does so a period later, as far as there are
+    -- numbers.
     shifted : (u s : ℕ) → u + p ≡ s → l ≤ u → IsLesser lt x e u l ⊎ Agree x e u l → IsLesser lt x e s l ⊎ Agree x e s l
     shifted u s at low (inr agree) = inr (λ t room. sym (is.periodic (u + t) (s + t) (omega (arith, at)) (omega (arith, low)) room) ∙ agree t (omega (arith, room, at)))
     shifted u s at low (inl less) = elim (cases_lt (s + less.at) e) [
@@ -108,14 +109,14 @@ module _ (lt : ℕ → ℕ → Type 0) where
     after-to zero s le low = after-step s low (λ at lower. absurd (omega (arith, le, at, is.some)))
     after-to (suc n) s le low = after-step s low (λ at lower. after-to n (s - p) (omega (arith, le, at, is.some)) lower)
 
-    -- From there on each suffix is less, or the greatest one begins with it.
+    -- From the greatest suffix on, each suffix is less, or the greatest one begins with it.
     pub after : (s : ℕ) → l ≤ s → IsLesser lt x e s l ⊎ Agree x e s l
     after s low = after-to s s (omega arith) low
 
   -- ---- the steps of the loop
 
   module _ (x : ℕ → ℕ) (m l o k p : ℕ) (is : IsCandidate lt x m l o k p) where
-    -- One more number that goes on with the period, in numbers that are the same before.
+    -- One more number continues the period, in numbers that are the same before it.
     extended : (y : ℕ → ℕ) (e : ℕ) → e ≡ o + k + 1 → ((i : ℕ) → i < o + k → y i ≡ x i) → y (o + k) ≡ x (l + k) → IsLeastPeriod lt y e l p
     extended y e end below next = record {
       some = is.period.some;
@@ -176,7 +177,7 @@ module _ (lt : ℕ → ℕ → Type 0) where
           less : lt (x (o + k)) (x (l + k))
           less = subst (λ n. lt n (x (l + k))) there (subst (λ n. lt theirs n) here below)
 
-          -- The numbers up to the last, with the one in its place that would go on with the period.
+          -- The numbers, with the last one replaced by that which would continue the period.
           abbrev continued : ℕ → ℕ
           continued i = cond (eqb i (o + k)) (x (l + k)) (x i)
 

@@ -57,7 +57,7 @@ module _ {X : Type 0} (form : EncodingForm) (number : X → ℕ) where
         ends-none at (subst (λ n. IsBoundary form (map number us) n) (length-map us number ∙ sym (last-empty us at last)) (IsBoundary-end form (map number us)))
     last-ends (x ∷ xs) at well_needle last = ends-some (x ∷ xs) at well_needle (omega arith) last.here
 
-    -- For a character.
+    -- The ends of an occurrence of a character are boundaries.
     pub char-ends : (c at : ℕ) → IsScalar c → OccursAt (code_units form c) (map number us) at
         → IsCharBoundary form (map number us) at × IsCharBoundary form (map number us) (at + length (code_units form c))
     char-ends c at scalar occurs =
@@ -66,7 +66,8 @@ module _ {X : Type 0} (form : EncodingForm) (number : X → ℕ) where
           seen (at + length (code_units form c)) (IsBoundary-after_needle form (code_units form c) (map number us) at well_needle (some_units form c) occurs),
         )
 
-    -- After a pattern with which the units begin, and before one with which they end.
+    -- A needle with which the units begin occurs at offset 0, and one with which they end occurs at its distance from
+    -- the end.
     occurs-start : (needle rest : List X) → us ≡ needle ++ rest → OccursAt needle us 0
     occurs-start needle rest e = record {
       within = omega (arith, ap length e, length-append needle rest);

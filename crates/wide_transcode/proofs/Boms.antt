@@ -18,7 +18,7 @@ use Rattle.wide_bytes.proofs.Pairs.{units_in-short}
 use Rattle.wide_error.specs.declared.error.TranscodeError.{TranscodeError}
 use Rattle.wide_error.specs.declared.error.TranscodeError.TheVariants.{Utf16 as Utf16Fault, OutOfMemory, OddLength, Read, Write}
 
--- What follows the BOM.
+-- The bytes after the BOM are at most as many as all bytes.
 pub bom-shorter : (bytes : List ℕ) → length (without_bom bytes) ≤ length bytes
 bom-shorter bytes = elim (is_some (bom_of bytes)) as (λ t. length (cond t (drop 2 bytes) bytes) ≤ length bytes) [ true ↦ omega (arith, length-drop 2 bytes) | false ↦ omega arith ]
 

@@ -27,7 +27,7 @@ use Rattle.wide_transcode.proofs.Lossied.{first-unit, last-of, only, block-no_ze
 use Rattle.wide_bytes.proofs.Pairs.{length-units_in}
 use Rattle.wide_bytes.proofs.UnitLists.{units_in-take, units_in-drop}
 
--- What a surrogate is, by its test, or by its upper bits.
+-- A unit is a surrogate if its test says so, or by its upper bits.
 is-high : (u : ℕ) → is_high u ≡ true → IsHighSurrogate Utf16 u
 is-high u e = (grind (arith, e), grind (arith, e))
 
@@ -151,7 +151,7 @@ scalars-after policy after_fault [] chain = subst (λ cs. All IsScalar cs) (sym 
 scalars-after policy after_fault (Char c ∷ is) chain = subst (λ cs. All IsScalar cs) (sym (lossy_after-char policy after_fault c is)) (All-cons IsScalar c (lossy_after policy false is) chain.0 (scalars-after policy false is chain.2))
 scalars-after policy after_fault (Fault u ∷ is) chain = scalars-at_fault policy after_fault u is (scalars-after policy true is chain.2) (replacement policy after_fault) refl
 
--- It is well formed, so it is written.
+-- Lossy text is well formed, so all of it is written.
 pub lossy-written : (policy : Policy) (after_fault : Bool) (us prefix text : List ℕ) (r : Option ℕ) (n : ℕ) → prefix ≡ encode Utf16 (lossy_after policy after_fault (items Utf16 us)) → IfNone r (IsWellFormed Utf16 prefix → ⊥) → IfSome r (λ len. take len text ≡ utf8 (chars Utf16 prefix)) → n ≡ unwrap_or r 0
     → take n text ≡ lossy_text policy after_fault us
 lossy-written policy after_fault us prefix text None n e none some is =

@@ -73,12 +73,12 @@ module _ {order : BoM} {policy : Option Policy} {after_fault : Bool} (first byte
       let b = beginning policy (given-more more s) in
       (b.0, ap (λ bs. (transcoded_after order policy bs).text) (sym (append_assoc first bytes more)) ∙ b.1)
 
--- Without a policy.
+-- How a run without a policy ends.
 module _ {order : BoM} {after_fault : Bool} (first bytes : List ℕ) {rest written : List ℕ} {offset item : ℕ} (s : Sofar order None (first ++ bytes) rest after_fault written offset item) where
   abbrev EndsStrict : {T : Type 0} → Result T TranscodeError → Bool → Type 0
   EndsStrict r ended = EndsAfter r ended order None first bytes written
 
-  -- If one unit is left, it is the last.
+  -- If one unit is left, it is the last one of the input.
   last-unit : (u : ℕ) → units_in order rest ≡ u ∷ [] → offset + 1 ≡ length (units_in order (first ++ bytes))
   last-unit u one = omega (arith, length-units_in order (first ++ bytes), ap length s.split, length-append s.passed rest, s.counted, length-units_in order rest, ap length one)
 
@@ -104,7 +104,7 @@ module _ {order : BoM} {after_fault : Bool} (first bytes : List ℕ) {rest writt
   fault-strict T Read u ended going at fault = absurd at
   fault-strict T Write u ended going at fault = absurd at
 
-  -- A high surrogate at the end.
+  -- A high surrogate at the end of the input is unpaired.
   unpaired-last : (u : ℕ) → IsHighSurrogate Utf16 u → IsUnpaired u []
   unpaired-last u high = inr (high, λ l back e. absurd cc)
 
@@ -142,7 +142,7 @@ module _ {order : BoM} {after_fault : Bool} (first bytes : List ℕ) {rest writt
       by_rest (a ∷ b ∷ c ∷ []) e high = fault-left (unit_in order a b) (ap (λ bs. units_in order bs) e) high
       by_rest (a ∷ b ∷ c ∷ d ∷ bs) e pending = absurd pending
 
--- Under a policy.
+-- How a run under a policy ends.
 module _ {order : BoM} {policy : Policy} {after_fault : Bool} (first bytes : List ℕ) {rest written : List ℕ} {offset item : ℕ} (s : Sofar order (Some policy) (first ++ bytes) rest after_fault written offset item) where
   -- No fault is reported.
   no-fault : (odd : Bool) (units : List ℕ) → MayBePaired (ending_of None odd) units
@@ -181,7 +181,7 @@ finish-ends {order} None first bytes {rest} {written} s r ended last over at =
     subst (λ text. EndsAfter r ended order None first bytes text) (sym (append-nil written) ∙ ap (λ l. written ++ l) (sym at.0)) (finish-strict first bytes s r ended over at.1)
 finish-ends (Some policy) first bytes s r ended last over at = finish-lossy first bytes s r ended last over at
 
--- A read failed.
+-- How a run ends in which a read failed.
 pub read-ends : {order : BoM} (policy : Option Policy) {after_fault : Bool} (first bytes : List ℕ) {rest written : List ℕ} {offset item : ℕ} → Sofar order policy (first ++ bytes) rest after_fault written offset item
     → (T : Type 0) (ended : Bool) → IsPending order rest → EndsAfter {T = T} (Err Read) ended order policy first bytes written
 read-ends {order} None first bytes s T ended pending =

@@ -30,7 +30,7 @@ joined policy after_fault a b cut =
 joined-flag : (after_fault : Bool) (a b : List ℕ) → IsCut Utf16 a b → units_end_in_fault after_fault (a ++ b) ≡ units_end_in_fault (units_end_in_fault after_fault a) b
 joined-flag after_fault a b cut = ap (λ is. ends_in_fault after_fault is) (items-append Utf16 a b cut) ∙ ends_in_fault-append after_fault (items Utf16 a) (items Utf16 b)
 
--- A fault.
+-- An unpaired surrogate is a fault whatever follows it.
 alone : (u : ℕ) (tail : List ℕ) → IsUnpaired u tail → items Utf16 (u ∷ []) ≡ Fault u ∷ []
 alone u tail (inl low) = items-prefix_low Utf16 u [] low ∙ ap (λ is. Fault u ∷ is) (items-nil Utf16)
 alone u tail (inr high) = items-prefix_high Utf16 u [] high.0 (λ l back e. absurd cc) ∙ ap (λ is. Fault u ∷ is) (items-nil Utf16)
@@ -58,7 +58,7 @@ empty-or (x ∷ xs) = inr (λ e. absurd cc)
 pub cut-shorter : (a b c : List ℕ) → IsCut Utf16 a (b ++ c) → IsCut Utf16 a b
 cut-shorter a b c cut prefix back h l e f = cut prefix (back ++ c) h l e (ap (λ us. us ++ c) f)
 
--- After both lists no pair is split, if none is split after the first or after the second.
+-- If no pair is split after the first list, and none after the second, none is split after both.
 cut-both : (a b c : List ℕ) → IsCut Utf16 a (b ++ c) → IsCut Utf16 b c → IsCut Utf16 (a ++ b) c
 cut-both a b c first then = elim (empty-or b) [
   | inl none ↦ subst (λ us. IsCut Utf16 us c) (sym (append-nil a) ∙ ap (λ us. a ++ us) (sym none)) (subst (λ us. IsCut Utf16 a (us ++ c)) none first)
@@ -84,7 +84,7 @@ lossied-none order policy after_fault rest text = record {
   no_zero = λ e. ap (λ us. ends_with nat_eq us (0 ∷ [])) (nothing-read order);
 }
 
--- The last element of a list is that of its end.
+-- The last element of two lists is that of the second, if it is not empty.
 ends-beyond : (a b : List ℕ) → b ≢ [] → ends_with nat_eq b (0 ∷ []) ≡ false → ends_with nat_eq (a ++ b) (0 ∷ []) ≡ false
 ends-beyond a b some none = elim (snoc b) [
   | inl empty ↦ absurd (some empty)
@@ -119,7 +119,7 @@ lossied-then {order} {policy} {after_fault} {after_fault'} {after_fault''} {a} {
       ];
     }
 
--- A fault.
+-- The first unit of the bytes is a fault.
 pub first-unit : (order : BoM) (a b u : ℕ) (bytes tail : List ℕ) → units_in order (a ∷ b ∷ bytes) ≡ u ∷ tail → (unit_in order a b ≡ u) × (units_in order bytes ≡ tail)
 unfolding units_in
 first-unit order a b u bytes tail e = (cc, cc)
@@ -136,7 +136,7 @@ fault_text-text policy after_fault u tail unpaired = ap (λ is. utf8 (lossy_afte
     by_replacement None e = ap (λ cs. utf8 cs) (lossy_after-dropped policy after_fault u [] e ∙ lossy_after-none_left policy true)
     by_replacement (Some c) e = ap (λ cs. utf8 cs) (lossy_after-replaced policy after_fault u c [] e ∙ ap (λ cs. c ∷ cs) (lossy_after-none_left policy true))
 
--- Units that do not end in two zero bytes.
+-- Bytes that do not end in two zeros have units that do not end in a zero unit.
 pub block-no_zero : (order : BoM) (bytes : List ℕ) (r : ℕ) → r ≤ length bytes → length (take r bytes) % 2 ≡ 0 → (r ≡ length bytes → ends_with nat_eq bytes (0 ∷ 0 ∷ []) ≡ false) → drop r bytes ≡ [] → ends_with nat_eq (units_in order (take r bytes)) (0 ∷ []) ≡ false
 block-no_zero order bytes r within even none left =
     let all_read : length bytes ≤ r = omega (arith, ap length left, length-drop r bytes) in
@@ -156,7 +156,7 @@ pub text-then : (a b : List ℕ) (m n : ℕ) → IsText a m → IsText b n → I
 text-then a b m n x y =
     (x.0 ++ y.0, items-append_left Utf16 a b (text-well a m x) ∙ ap (λ is. is ++ items Utf16 b) x.1 ∙ ap (λ is. map Char x.0 ++ is) y.1 ∙ sym (map-append Char x.0 y.0), omega (arith, x.2, y.2, length-append x.0 y.0))
 
--- No fault was read last.
+-- After units without a fault, no fault was read last.
 pub text-flag : (us : List ℕ) (n : ℕ) → IsText us n → false ≡ units_end_in_fault false us
 text-flag us n text = sym (ap (λ is. ends_in_fault false is) text.1 ∙ by_chars text.0)
   where

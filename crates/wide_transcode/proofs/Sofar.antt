@@ -92,7 +92,7 @@ module _ {order : BoM} {policy : Option Policy} {all rest : List ℕ} {after_fau
   pub many : offset ≤ length (units_after order all)
   many = omega (arith, ap length units-all, length-append (units_in order s.passed) (units_after order rest), length-units_in order s.passed, s.counted)
 
--- Without a policy: the characters up to a fault.
+-- What all bytes become without a policy: the characters up to a fault.
 module _ {order : BoM} {all rest : List ℕ} {after_fault : Bool} {written : List ℕ} {offset item : ℕ} (s : Sofar order None all rest after_fault written offset item) where
   abbrev characters : List ℕ
   characters = (s.strict refl).0
@@ -123,7 +123,7 @@ module _ {order : BoM} {all rest : List ℕ} {after_fault : Bool} {written : Lis
       ∙ ap (λ f. becomes written (ending_of (option_map (λ u. (length (encode Utf16 characters), length characters, u)) f) (is_odd all))) (first_fault-chars characters is ∙ at)
       ∙ ap (λ n. becomes written (ending_of (option_map (λ u. (n, length characters, u)) fault) (is_odd all))) count ∙ ap (λ n. becomes written (ending_of (option_map (λ u. (offset, n, u)) fault) (is_odd all))) (sym (s.strict refl).2)
 
-  -- No unit that is meant is left.
+  -- If none of the units that bytes mean is left, the text is complete.
   pub whole : (n : ℕ) → length rest ≡ n → units_after order rest ≡ [] → transcoded_after order None all ≡ becomes written (ending_of None (eqb (n % 2) 1))
   whole n long none = reported [] None (ap (λ us. items Utf16 us) none ∙ items-nil Utf16) refl refl ∙ ap (λ t. becomes written (ending_of None t)) (odd-all s n long)
 

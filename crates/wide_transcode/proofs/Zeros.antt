@@ -102,7 +102,8 @@ split-units order passed rest even none =
           )
     ]
 
--- The units that are meant are a prefix of the units of the bytes that are left, up to a zero unit.
+-- The units that the bytes mean are a prefix of the units of the bytes that are left, which leaves out at most a zero
+-- unit.
 pub left-prefix : (order : BoM) (rest : List ℕ) → (dropped : List ℕ) × (units_in order rest ≡ units_after order rest ++ dropped) × ((dropped ≡ []) ⊎ (dropped ≡ 0 ∷ []))
 left-prefix order rest = by_odd (is_odd rest) (units_in order rest)
   where

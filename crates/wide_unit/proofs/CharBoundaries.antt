@@ -8,7 +8,7 @@ use Rattle.wide_forms.specs.Offsets.{IsTextRange, IsCharBoundary, IsCharRange}
 use Rattle.wide_forms.specs.Laws.Boundaries.{IsBoundary-at, IsBoundary-end, no-low_at_boundary}
 use Rattle.wide_forms.specs.Laws.Offsets.{IsBoundary-start, IsBoundary-within}
 
--- These hold for any units.
+-- What holds of any units.
 pub IsBoundary-of_char : (form : EncodingForm) (us : List ℕ) (offset : ℕ) → IsCharBoundary form us offset → IsBoundary form us offset
 IsBoundary-of_char form us zero here = IsBoundary-start form us
 IsBoundary-of_char form us (suc n) here = elim (cases_lt (suc n) (length us)) [
@@ -23,7 +23,7 @@ pub past_or_boundary : {P : Type 0} (form : EncodingForm) (us : List ℕ) (offse
 past_or_boundary form us offset (inl past) = inl past
 past_or_boundary form us offset (inr here) = inr (IsBoundary-of_char form us offset here)
 
--- These hold for well-formed units.
+-- What holds of well-formed units.
 module _ (form : EncodingForm) (us : List ℕ) where
   pub IsCharBoundary-of : (offset : ℕ) → IsWellFormed form us → IsBoundary form us offset → IsCharBoundary form us offset
   IsCharBoundary-of offset well at = (IsBoundary-within form us offset at, λ some below. no-low_at_boundary form us offset well below at)
@@ -31,7 +31,7 @@ module _ (form : EncodingForm) (us : List ℕ) where
   pub IsCharRange-of_text : (from to : ℕ) → IsWellFormed form us → IsTextRange form us from to → IsCharRange form us from to
   IsCharRange-of_text from to well part = record { within = part.within; start = IsCharBoundary-of from well part.start; end = IsCharBoundary-of to well part.end }
 
-  -- What is equivalent to one is equivalent to the other.
+  -- A test that is equivalent to `IsCharBoundary` is equivalent to `IsBoundary`.
   pub reports_char_boundary : {T : Type 0} (offset : ℕ) → IsWellFormed form us → T ↔ IsBoundary form us offset → T ↔ IsCharBoundary form us offset
   reports_char_boundary offset well reports = (λ t. IsCharBoundary-of offset well (reports.0 t), λ here. reports.1 (IsBoundary-of_char form us offset here))
 

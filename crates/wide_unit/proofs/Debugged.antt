@@ -12,7 +12,7 @@ use Rattle.wide_forms.specs.Laws.Utf8.{utf8-encode_utf8_all}
 use Rattle.wide_forms.specs.Texts.{debug_item, is_plain, quoted, quoted_output}
 use Rattle.wide_unit.proofs.Printed.{HasPrinted, printed-none, printed-more, printed-all}
 
--- A text that is promised under a condition.
+-- A formatter that promises a text only under a condition.
 writes-where : {W : Type 0} (took : W → List ℕ → W → Type 0) (f g : Formatter W) (r : Result (Unit {0}) Error) (text : List ℕ) (b : Bool) → (b ≡ true → WritesOnOk took f r text g) → DisplaysOnOk took f r (cond b (Some text) None) g
 writes-where took f g r text true writes = writes refl
 writes-where took f g r text false writes = tt

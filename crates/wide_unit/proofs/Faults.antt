@@ -37,7 +37,7 @@ leading-split [] u e = absurd cc
 leading-split (Char c ∷ is) u e = let tail = leading-split is u e in (tail.0, ap (λ js. Char c ∷ js) tail.1)
 leading-split (Fault v ∷ is) u e = let same : v ≡ u = cc in (is, ap (λ w. Fault w ∷ is) same)
 
--- The fields of what an option has.
+-- The index of a first fault, or 0 if there is none.
 index_in : Option (ℕ × ℕ × ℕ) → ℕ
 index_in None = 0
 index_in (Some p) = p.0
@@ -73,7 +73,7 @@ pub IsFirstFault-of : (form : EncodingForm) (us prefix : List ℕ) (rest : List 
 IsFirstFault-of form us prefix rest index item u split at number =
     ap (first_fault form) split ∙ first_fault-beyond form prefix u rest ∙ ap (λ n. Some (n, length prefix, u)) at ∙ ap (λ n. Some (index, n, u)) number
 
--- The units are those of the characters before the fault, the fault, and others.
+-- The units are those of the characters before the first fault, then the fault, then others.
 fault-joined : (form : EncodingForm) (us prefix : List ℕ) (u : ℕ) (rest : List Item) → items form us ≡ map Char prefix ++ Fault u ∷ rest → us ≡ encode form prefix ++ u ∷ units_of form rest
 fault-joined form us prefix u rest split =
     sym (units_of-items form us) ∙ ap (units_of form) split ∙ units_of-append form (map Char prefix) (Fault u ∷ rest) ∙ ap (λ xs. xs ++ u ∷ units_of form rest) (units_of-chars form prefix)
@@ -82,7 +82,7 @@ prefix-taken : (form : EncodingForm) (us prefix : List ℕ) (u : ℕ) (rest : Li
 prefix-taken form us prefix u rest index split at =
     ap (λ n. take n us) (sym at) ∙ ap (take (length (encode form prefix))) (fault-joined form us prefix u rest split) ∙ take-append_seam (encode form prefix) (u ∷ units_of form rest)
 
--- The index of the fault is less than the length.
+-- The index of the first fault is less than the length.
 pub first_fault-below : (form : EncodingForm) (us : List ℕ) (index item u : ℕ) → IsFirstFault form us index item u → index < length us
 first_fault-below form us index item u e =
     let (prefix, rest, split, at, number) = first_fault-split form us index item u e in
@@ -94,27 +94,27 @@ prefix-scalars form [] is chain k d within = absurd (omega (arith, within))
 prefix-scalars form (c ∷ cs) is chain zero d within = chain.0
 prefix-scalars form (c ∷ cs) is chain (suc k) d within = prefix-scalars form cs is chain.2 k d (omega (arith, within))
 
--- The units before the fault are well formed.
+-- The units before the first fault are well formed.
 pub first_fault-prefix : (form : EncodingForm) (us : List ℕ) (index item u : ℕ) → IsFirstFault form us index item u → IsWellFormed form (take index us)
 first_fault-prefix form us index item u e =
     let (prefix, rest, split, at, number) = first_fault-split form us index item u e in
     let scalars : All IsScalar prefix = prefix-scalars form prefix (Fault u ∷ rest) (subst (Chain form) split (items-chain form us)) in
     subst (IsWellFormed form) (sym (prefix-taken form us prefix u rest index split at)) (IsWellFormed-encode form prefix scalars)
 
--- The number of characters before the fault is its item number.
+-- The number of characters before the first fault is its item number.
 pub first_fault-item : (form : EncodingForm) (us : List ℕ) (index item u : ℕ) → IsFirstFault form us index item u → item ≡ chars_before form us index
 first_fault-item form us index item u e =
     let (prefix, rest, split, at, number) = first_fault-split form us index item u e in
     let scalars : All IsScalar prefix = prefix-scalars form prefix (Fault u ∷ rest) (subst (Chain form) split (items-chain form us)) in
     sym number ∙ ap length (sym (chars-encode form prefix scalars)) ∙ ap (λ vs. length (chars form vs)) (sym (prefix-taken form us prefix u rest index split at))
 
--- The units before the fault are unchanged in the lossy text.
+-- The units before the first fault are unchanged in the lossy text.
 pub lossy-after_prefix : (form : EncodingForm) (us : List ℕ) (index item u : ℕ) → IsFirstFault form us index item u
     → encode form (lossy (items form us)) ≡ take index us ++ encode form (lossy (items form (drop index us)))
 lossy-after_prefix form us index item u e =
     ap (λ xs. encode form (lossy (items form xs))) (sym (take-append-drop index us)) ∙ lossy-after form (take index us) (drop index us) (first_fault-prefix form us index item u e)
 
--- The fault is the first item from its index on.
+-- The first fault is the first item from its index on.
 pub first_fault-first : (form : EncodingForm) (us : List ℕ) (index item u : ℕ) → IsFirstFault form us index item u → (rest : List Item) × (items form (drop index us) ≡ Fault u ∷ rest)
 first_fault-first form us index item u e =
     let (prefix, rest, split, at, number) = first_fault-split form us index item u e in

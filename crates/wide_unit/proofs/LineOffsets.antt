@@ -114,7 +114,7 @@ begins form whole prefix (p ∷ q ∷ ps) e =
 pub IsBoundary-lines : (form : EncodingForm) (us : List ℕ) → All (λ line. IsBoundary form us line.0) (placed_lines form 0 (items form us))
 IsBoundary-lines form us = begins form (items form us) [] (slice_split is_line_feed (items form us)) (sym (joined-split (items form us)))
 
--- In well-formed units, by the unit at the offset.
+-- In well-formed units, each line begins at a character boundary.
 each-char_boundary : (form : EncodingForm) (us : List ℕ) → IsWellFormed form us → (lines : List (ℕ × List Item)) → All (λ line. IsBoundary form us line.0) lines → All (λ line. IsCharBoundary form us line.0) lines
 each-char_boundary form us well [] all = All-nil (λ line. IsCharBoundary form us line.0)
 each-char_boundary form us well (line ∷ lines) all =

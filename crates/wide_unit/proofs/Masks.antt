@@ -43,14 +43,14 @@ module _ (p : ℕ → Bool) where
   pub offset_in : (us : List ℕ) → first_offset p us ≤ length us
   offset_in us = prefix_len-le-length (λ u. not (p u)) us
 
-  -- None of the first n units from m on passes.
+  -- If none of the first m units passes, and none of the next n, none of the first m + n passes.
   pub none_further : (us : List ℕ) (m n : ℕ) → NoneBefore us m → NoneBefore (drop m us) n → NoneBefore us (m + n)
   none_further us m n low high k l = ⊎_elim (λ a. low k a) (λ b.
       let e : m + (k - m) ≡ k = omega arith in
       let h = high (k - m) (omega arith) in
       subst (λ j. p (get_or us j 0) ≡ false) e (subst (λ x. p x ≡ false) (get_or-drop m us (k - m) 0) h)) (cases_lt k m)
 
-  -- One more unit.
+  -- If none of the first m units passes, and the next one does not, none of the first m + 1 passes.
   pub none_more : (us : List ℕ) (m : ℕ) → NoneBefore us m → p (get_or us m 0) ≡ false → NoneBefore us (m + 1)
   none_more us m before here k l = ⊎_elim (λ a. before k a) (λ b. let e : k ≡ m = omega arith in subst (λ j. p (get_or us j 0) ≡ false) (sym e) here) (cases_lt k m)
 
@@ -95,18 +95,18 @@ module _ (p : ℕ → Bool) where
     none_in_block : (us : List ℕ) (m : ℕ) → NoneBefore (take n (drop m us)) n → NoneBefore (drop m us) n
     none_in_block us m h k l = subst (λ x. p x ≡ false) (get_or-take n (drop m us) k 0 l) (h k l)
 
-    -- An empty mask.
+    -- If the mask of a block is empty, no unit of the block passes.
     block_passed : (us : List ℕ) (m : ℕ) → m + n ≤ length us → NoneBefore us m → mask_l (map p (take n (drop m us))) ≡ 0 → NoneBefore us (m + n)
     block_passed us m space before zero_mask =
         let block = take n (drop m us) in
         let all : first_offset p block ≡ n = leading_from_mask_l p block zero_mask ∙ block_long us m space in
         none_further us m n before (none_in_block us m (λ k l. none_to_offset block k (omega (arith, all))))
 
-    -- A mask that is not empty: if no lane passed, its mask would be empty.
+    -- If the mask of a block is not empty, a unit of the block passes.
     offset_below : (block : List ℕ) → length block ≡ n → 0 < mask_l (map p block) → first_offset p block < n
     offset_below block long some = ⊎_elim (λ l. l) (λ ge. absurd (omega (arith, some, empty_mask block (λ k l. none_to_offset block k (omega (arith, ge, l, long)))))) (cases_lt (first_offset p block) n)
 
-    -- The lowest bit of a mask.
+    -- The lowest bit of a mask is that of the first unit that passes.
     block_stops : (us : List ℕ) (m : ℕ) → m + n ≤ length us → NoneBefore us m → 0 < mask_l (map p (take n (drop m us)))
         → m + count_trailing_zeros 64 (mask_l (map p (take n (drop m us)))) ≡ first_offset p us
     block_stops us m space before some =
@@ -156,7 +156,7 @@ same_tests : (P : ℕ → Type 0) (t p : ℕ → Bool) → ((u : ℕ) → P u �
 same_tests P t p same [] h = refl
 same_tests P t p same (u ∷ us) h = rw (same u h.0, same_tests P t p same us h.1) refl
 
--- A surrogate of 16 bits.
+-- A 16-bit unit is a surrogate by its upper bits.
 surrogate_test : (u : ℕ) → u < 2 ^ 16 → eqb (bit_and u 0xf800) 0xd800 ≡ is_surrogate u
 surrogate_test u l = let e : bit_and u 0xf800 ≡ u / 2 ^ 11 * 2 ^ 11 = and_high_mask 16 11 (omega arith) u l in rw e (grind arith)
 
@@ -176,7 +176,7 @@ surrogate_block us long fits =
     ap (λ (vs : List ℕ). mask_l (map (top 15) (zip2 (λ a b. cond (eqb a b) (2 ^ 16 - 1) 0) (zip2 bit_and vs (replicate 16 0xf800)) (replicate 16 0xd800))) % 2 ^ 64) whole
     ∙ bits16 us long (Each1-from_get_or (λ u. u < 2 ^ 16) us 0 (λ i _. (fits i).fits))
 
--- No scalar value.
+-- Whether a 32-bit unit is no scalar value, as the lanes test it.
 abbrev pub surrogate32 : ℕ → Bool
 surrogate32 u = eqb (bit_and u 0xffff_f800) 0xd800
 
@@ -219,7 +219,7 @@ no_scalar_block us long fits =
     let whole : take 8 us ≡ us = take_all 8 us (omega arith) in
     ap bits32 whole ∙ bits32-are us long (Each1-from_get_or (λ u. u < 2 ^ 32) us 0 (λ i _. (fits i).fits))
 
--- One unit only.
+-- The mask of the units that equal one unit.
 pub same_block16 : (v : ℕ) (us : List ℕ) → length us ≡ 16 → mask_l (map (top 15) (zip2 (λ a b. cond (eqb a b) (2 ^ 16 - 1) 0) (take 16 us) (replicate 16 v))) % 2 ^ 64 ≡ mask_l (map (is_unit v) us)
 same_block16 v us long =
     let whole : take 16 us ≡ us = take_all 16 us (omega arith) in
@@ -230,7 +230,7 @@ same_block32 v us long =
     let whole : take 8 us ≡ us = take_all 8 us (omega arith) in
     ap (λ vs. mask_l (map (top 31) (zip2 (λ a b. cond (eqb a b) (2 ^ 32 - 1) 0) vs (replicate 8 v))) % 2 ^ 64) whole ∙ bitmask_splat w32 eqb us 8 v long (omega arith)
 
--- The surrogates of pairs.
+-- The masks of the high and of the low surrogates of a block.
 masked_bits16 : (c : ℕ) (p : ℕ → Bool) → ((u : ℕ) → u < 2 ^ 16 → eqb (bit_and u 0xfc00) c ≡ p u) → (us : List ℕ) → length us ≡ 16 → Each1 (λ u. u < 2 ^ 16) us
     → mask_l (map (top 15) (zip2 (λ a b. cond (eqb a b) (2 ^ 16 - 1) 0) (zip2 bit_and us (replicate 16 0xfc00)) (replicate 16 c))) % 2 ^ 64 ≡ mask_l (map p us)
 masked_bits16 c p same us long below =

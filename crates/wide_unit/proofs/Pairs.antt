@@ -72,7 +72,8 @@ module _ (us : List ℕ) (fits : (k : ℕ) → Fits w16 (get_or us k 0)) where
       let e : suc (m + j) ≡ m + suc j = omega arith in
       subst UpTo e (more (m + j) (omega arith) (same j (omega arith)) (steps m j (omega arith) (λ k l. same k (omega arith)) up))
 
-  -- Equal masks of a block and of the block one unit after it.
+  -- If the mask of the high surrogates of a block equals that of the low ones of the block one unit later, the
+  -- surrogates are paired.
   pub paired : (m i j : ℕ) → i ≡ 16 → j ≡ 16 → m + 17 ≤ length us → mask_l (map is_high (take i (drop m us))) ≡ mask_l (map is_low (take j (drop (m + 1) us)))
       → (k : ℕ) → k < 16 → is_high (get_or us (m + k) 0) ≡ is_low (get_or us (suc (m + k)) 0)
   paired m i j ei ej space e k l =

@@ -22,7 +22,7 @@ module _ {W : Type 0} {took : W → List ℕ → W → Type 0} where
     joined = append_assoc so_far.done bs rest ∙ ap (λ xs. so_far.done ++ xs) (sym e) ∙ so_far.joined;
   }
 
-  -- A step that writes nothing.
+  -- A step that writes nothing leaves what has to be printed.
   pub printed-same : {f g : Formatter W} {text left : List ℕ} (rest : List ℕ) → HasPrinted took f text left g → left ≡ rest → HasPrinted took f text rest g
   printed-same rest so_far e = record { done = so_far.done; wrote = so_far.wrote; joined = ap (λ xs. so_far.done ++ xs) (sym e) ∙ so_far.joined }
 

@@ -19,7 +19,7 @@ differ a b = not (eqb a b)
 abbrev before : List ℕ → List ℕ → ℕ
 before us vs = prefix_len (λ b. not b) (zip2 differ us vs)
 
--- One more element at the beginning.
+-- If an element before both lists is the same, one more element of them is.
 same-after : (u w : ℕ) (us vs : List ℕ) (k : ℕ) → u ≡ w → take k us ≡ take k vs → take (1 + k) (u ∷ us) ≡ take (1 + k) (w ∷ vs)
 same-after u w us vs k same rest = let e : 1 + k ≡ suc k = omega arith in rw e (cc (same, rest))
 

@@ -9,10 +9,11 @@ use Rattle.wide_forms.specs.Laws.Policies.{characters-append, lossy_by-at_char, 
 use Rattle.wide_forms.specs.declared.policy.Policy.{Policy}
 use Rattle.wide_ustr.specs.LossyWith.{BeginsPastFaults, EndsBeforeFaults}
 
--- All items that were read are faults, from the front and from the back.
+-- All items that were read from the front are faults.
 abbrev pub PassedFirst : List Item → List Item → Type 0
 PassedFirst is now = (run : List ℕ) × (is ≡ map Fault run ++ now)
 
+-- All items that were read from the back are faults.
 abbrev pub PassedLast : List Item → List Item → Type 0
 PassedLast is now = (run : List ℕ) × (is ≡ now ++ map Fault run)
 
@@ -61,14 +62,14 @@ past_run policy (Some c) e none run is = absurd cc
 past_run policy None e none [] is = refl
 past_run policy None e none (u ∷ run) is = lossy_after-dropped policy true u (map Fault run ++ is) e ∙ past_run policy None e none run is
 
--- After a fault and before a character, or at the end.
+-- Lossy text after a fault, of items that begin with a character or are none.
 after_fault : (policy : Policy) (is : List Item) → (is ≡ []) ⊎ ((c : ℕ) × (tail : List Item) × (is ≡ Char c ∷ tail)) → lossy_after policy true is ≡ lossy_by policy is
 after_fault policy is past = elim past [
   | inl none ↦ rw none (lossy_after-none_left policy true ∙ sym (lossy_by-none policy))
   | inr some ↦ rw some.2 (lossy_after-char policy true some.0 some.1 ∙ sym (lossy_after-char policy false some.0 some.1) ∙ lossy_after-none policy (Char some.0 ∷ some.1))
 ]
 
--- A call that reads a run of faults, and yields what the policy has for the first of them.
+-- What a call yields that reads a run of faults: what the policy has for the first of them.
 pub run_next : (policy : Policy) (is tail rest : List Item) (u c : ℕ) → replacement policy false ≡ Some c → is_some (replacement policy true) ≡ false → is ≡ Fault u ∷ tail → BeginsPastFaults tail rest → lossy_by policy is ≡ c ∷ lossy_by policy rest
 run_next policy is tail rest u c e none f begins =
     ap (lossy_by policy) f ∙ sym (lossy_after-none policy (Fault u ∷ tail)) ∙ lossy_after-replaced policy false u c tail e
@@ -96,7 +97,7 @@ run_next_back policy is prefix rest u c e none f ends =
     ∙ lossy_after-append policy false rest faults ∙ ap (λ after. lossy_after policy false rest ++ lossy_after policy after faults) (ends_in_char rest ends.before)
     ∙ ap (λ xs. lossy_after policy false rest ++ xs) (run_end policy ends.run u c e none) ∙ ap (λ xs. xs ++ c ∷ []) (lossy_after-none policy rest)
 
--- A call that skips a fault at the end, and then takes the last character, if there is one.
+-- What a call from the back yields that skips a fault at the end: the last character before it, if there is one.
 pub skip_back : (policy now : Policy) (is prefix rest : List Item) (u : ℕ) (r : Option ℕ) → replacement policy false ≡ None → now ≡ policy → is ≡ prefix ++ Fault u ∷ []
     → MatchOption r ((characters prefix ≡ []) × (characters rest ≡ [])) (λ c. characters prefix ≡ characters rest ++ c ∷ [])
     → MatchOption r ((lossy_by policy is ≡ []) × (lossy_by now rest ≡ [])) (λ c. lossy_by policy is ≡ lossy_by now rest ++ c ∷ [])

@@ -15,7 +15,7 @@ indexed-append form offset (i ∷ is) js =
     let there : after + length (units_of form is) ≡ offset + length (units_of form (i ∷ is)) = omega (arith, units) in
     ap (λ l. (offset, i) ∷ l) (indexed-append form after is js ∙ ap (λ n. indexed form after is ++ indexed form n js) there)
 
--- The items of units and one more, which begins at the end of the units.
+-- The items of units and one more item, which begins at the end of these units, with their offsets.
 pub indexed-push : {C : Type 0} (form : EncodingForm) (number : C → ℕ) (offset : ℕ) (all rest : List C) (i : Item) → items form (map number all) ≡ items form (map number rest) ++ i ∷ []
     → indexed form offset (items form (map number all)) ≡ indexed form offset (items form (map number rest)) ++ (offset + length rest, i) ∷ []
 indexed-push form number offset all rest i e =

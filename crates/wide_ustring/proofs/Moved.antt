@@ -7,14 +7,14 @@ use Rattle.std.proofs.Math.ListN.{set}
 use Rattle.std.proofs.Math.Seq.{paste, paste-suc, take-add, drop-append-add, take-append_seam, drop-append_seam}
 
 module _ {A : Type 0} where
-  -- The parts of a list that was pasted into, after as many elements as stand before the pasted ones.
+  -- A list that was pasted into begins with the elements before the pasted ones.
   take-before : (a n : ℕ) (xs ys : List A) → a ≤ n → n ≤ length xs → take a (take n xs ++ ys) ≡ take a xs
   take-before a n xs ys le within = take-append-le a (take n xs) ys (omega (arith, le, within, length-take-le n xs within)) ∙ take-take a n xs le
 
   drop-after : (n k : ℕ) (xs ys : List A) → n ≡ length xs → drop (n + k) (xs ++ ys) ≡ drop k ys
   drop-after n k xs ys long = ap (λ m. drop (m + k) (xs ++ ys)) long ∙ drop-append-add xs ys k
 
-  -- Of elements that move to a greater index, those from number n on moved before.
+  -- Elements that move to a greater index can move in two steps: those from number n on, and then the first n.
   pub up : (xs : List A) (a b n m : ℕ) → b ≤ a → a + n + m ≤ length xs
       → paste (paste xs (a + n) (drop (b + n) xs) m) a (drop b (paste xs (a + n) (drop (b + n) xs) m)) n ≡ paste xs a (drop b xs) (n + m)
   up xs a b n m le within =
@@ -34,7 +34,7 @@ module _ {A : Type 0} where
       ∙ ap (λ zs. zs ++ drop (a + n + m) xs) (append_assoc (take a xs) (take n (drop b xs)) (take m (drop (b + n) xs)))
       ∙ ap (λ zs. take a xs ++ zs ++ drop (a + n + m) xs) both ∙ ap (λ k. take a xs ++ take (n + m) (drop b xs) ++ drop k xs) end
 
-  -- Of elements that move to a smaller index, the first l moved before.
+  -- Elements that move to a smaller index can move in two steps: the first l, and then the others.
   pub down : (xs : List A) (a b l n : ℕ) → a ≤ b → b + l + n ≤ length xs
       → paste (paste xs a (drop b xs) l) (a + l) (drop (b + l) (paste xs a (drop b xs) l)) n ≡ paste xs a (drop b xs) (l + n)
   down xs a b l n le within =

@@ -23,7 +23,7 @@ pub record IsPrefixText (form : EncodingForm) (us : List ℕ) (offset : ℕ) (by
   pub rest : IsWellFormed form (drop offset us)
 
 module _ (form : EncodingForm) (us : List ℕ) (well : IsWellFormed form us) where
-  -- At each boundary.
+  -- The units can be split at each boundary.
   pub prefix_text-boundary : (offset : ℕ) → IsBoundary form us offset → IsPrefixText form us offset (utf8 (chars form (take offset us)))
   prefix_text-boundary offset at =
       let cs = chars form us in
@@ -34,7 +34,7 @@ module _ (form : EncodingForm) (us : List ℕ) (well : IsWellFormed form us) whe
         rest = IsWellFormed-drop form us well offset at;
       }
 
-  -- After the units that encode some characters.
+  -- The units can be split after those that encode some characters.
   pub prefix_text-encode : (n : ℕ) (cs bytes : List ℕ) → n ≤ length us → All IsScalar cs → take n us ≡ encode form cs → bytes ≡ utf8 cs → IsPrefixText form us n bytes
   prefix_text-encode n cs bytes within scalars prefix text =
       let prefix_well : IsWellFormed form (take n us) = subst (λ vs. IsWellFormed form vs) (sym prefix) (IsWellFormed-encode form cs scalars) in
@@ -43,7 +43,7 @@ module _ (form : EncodingForm) (us : List ℕ) (well : IsWellFormed form us) whe
       let same : utf8 (chars form (take n us)) ≡ bytes = ap (λ vs. utf8 (chars form vs)) prefix ∙ ap utf8 (chars-encode form cs scalars) ∙ sym text in
       subst (λ bs. IsPrefixText form us n bs) same (prefix_text-boundary n at)
 
--- For units of any type whose numbers are `us`.
+-- The UTF-8 of units of any type whose numbers are `us`.
 prefix_text-numbers : {X : Type 0} {kind form : EncodingForm} (number : X → ℕ) (xs : List X) {us bytes : List ℕ} (n : ℕ) → kind ≡ form → us ≡ map number xs → utf8 (chars kind us) ≡ bytes ++ utf8 (chars kind (drop n us)) → IsWellFormed kind (drop n us)
     → IsPrefixText form (map number xs) n bytes
 prefix_text-numbers {kind} number xs {bytes} n same_form same text rest =
@@ -57,7 +57,7 @@ module _ {X : Type 0} {kind form : EncodingForm} (number : X → ℕ) (xs : List
   pub rest-numbers : IsWellFormed form (map number (drop n xs))
   rest-numbers = subst (λ vs. IsWellFormed form vs) (drop-map number n xs) (prefix_text-numbers number xs n same_form same text rest).rest
 
--- For what `EncodedUnits` says of well-formed 16-bit units.
+-- What `EncodedUnits` says of well-formed 16-bit units: they can be split there.
 pub prefix_text-units : (us : List ℕ) (n count : ℕ) (bytes : List ℕ) → IsWellFormed Utf16 us → n ≤ count → count ≤ length us → EncodedUnits (take n (take count us)) [] bytes → IsPrefixText Utf16 us n bytes
 prefix_text-units us n count bytes well short within e = prefix_text-encode Utf16 us well n e.cs bytes (omega arith) e.scalars (sym (take-take n count us short) ∙ e.units) e.text
 

@@ -51,7 +51,7 @@ pub some-read : (block : List ℕ) (r : ℕ) (fault : Option ℕ) → 2 ≤ leng
 some-read block r None long within none stop = omega (arith, cut-length (drop r block) stop, length-drop r block)
 some-read block r (Some u) long within none stop = absurd cc
 
--- Joining one more unit into the bitwise or.
+-- The bitwise or of the units, joined with one more unit, is at least as great as each.
 pub more-bits : (us : List ℕ) (k bits : ℕ) → ((j : ℕ) → j < k → get_or us j 0 ≤ bits) → (j : ℕ) → j < k + 1 → get_or us j 0 ≤ bit_or bits (get_or us k 0)
 more-bits us k bits all j within = elim (cases_lt j k) [
   | inl before ↦ omega (arith, all j before, le_or_l bits (get_or us k 0))

@@ -23,7 +23,7 @@ all-one : (P : ℕ → Type 0) (x : ℕ) → P x → All P (x ∷ [])
 all-one P x p zero d within = p
 all-one P x p (suc k) d within = absurd (omega arith)
 
--- No units.
+-- No units have no text.
 pub units-none : (text : List ℕ) → EncodedUnits [] text text
 units-none text = record { cs = []; scalars = λ k d within. absurd (omega arith); units = refl; text = sym (append-nil text) }
 
@@ -35,7 +35,7 @@ units-then {a} {b} {s} {t} {u} x y = record {
   text = y.text ∙ ap (λ bs. bs ++ utf8 y.cs) x.text ∙ append_assoc s (utf8 x.cs) (utf8 y.cs) ∙ ap (λ bs. s ++ bs) (sym (flat_map-append utf8_bytes x.cs y.cs));
 }
 
--- One unit that is a character.
+-- The text of one unit that is a character.
 pub units-one : (u : ℕ) (s t : List ℕ) → u < 0x10000 → (0xd800 ≤ u → 0xe000 ≤ u) → t ≡ s ++ utf8_bytes u → EncodedUnits (u ∷ []) s t
 units-one u s t below plain text = record {
   cs = u ∷ [];

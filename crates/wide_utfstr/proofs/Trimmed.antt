@@ -17,7 +17,7 @@ prefixes-same (c ∷ prefix) (d ∷ before) rest left e white also begins starts
 pub trimmed_start-same : (cs rest left : List ℕ) → IsTrimmedStart cs rest → IsTrimmedStart cs left → rest ≡ left
 trimmed_start-same cs rest left a b = prefixes-same a.prefix b.prefix rest left (sym a.joined ∙ b.joined) a.white b.white a.longest b.longest
 
--- For the end, by the reversed lists.
+-- Trimming at the end is trimming the reversed list at the beginning.
 white-reverse : (cs : List ℕ) → All IsWhiteSpace cs → All IsWhiteSpace (reverse cs)
 white-reverse [] white = All-nil IsWhiteSpace
 white-reverse (c ∷ cs) white =
@@ -40,8 +40,8 @@ trimmed_end-same cs rest left a b =
     let same = trimmed_start-same (reverse cs) (reverse rest) (reverse left) (trimmed_start-reverse cs rest a) (trimmed_start-reverse cs left b) in
     sym (reverse-reverse rest) ∙ ap reverse same ∙ reverse-reverse left
 
--- For both ends: if nothing remains, all characters are White_Space. Otherwise the two ends are trimmed one after the
--- other.
+-- Trimming at both ends: if nothing remains, all characters are White_Space. Otherwise the two ends are trimmed one
+-- after the other.
 white-back : (prefix back : List ℕ) → All IsWhiteSpace (prefix ++ back) → All IsWhiteSpace back
 white-back [] back white = white
 white-back (c ∷ prefix) back white = white-back prefix back (All-tail IsWhiteSpace c (prefix ++ back) white)

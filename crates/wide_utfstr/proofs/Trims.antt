@@ -6,12 +6,13 @@ use Rattle.std.specs.Char.{is_whitespace}
 use Rattle.std.specs.List.{All}
 use Rattle.wide_utfstr.specs.Trim.{IsWhiteSpace, BeginsWithText, EndsWithText, IsTrimmedStart, IsTrimmedEnd, IsTrimmed, IsBackOf, IsPrefixOf, IsMiddleOf}
 
--- All that was removed from the front, or from the back, is White_Space.
+-- All that was removed from the front is White_Space.
 pub record IsPastWhite (cs rest : List ℕ) : Type 0 where
   pub prefix : List ℕ
   pub joined : cs ≡ prefix ++ rest
   pub white : All IsWhiteSpace prefix
 
+-- All that was removed from the back is White_Space.
 pub record IsBeforeWhite (cs rest : List ℕ) : Type 0 where
   pub back : List ℕ
   pub joined : cs ≡ rest ++ back

@@ -52,13 +52,13 @@ module _ (form : EncodingForm) (us : List ℕ) (well : IsWellFormed form us) whe
     pub left-shorter : length rest ≤ length us
     left-shorter = omega (arith, left-length)
 
-    -- The offset that was reached.
+    -- The offset that was reached is that of the character.
     pub left-offset : (offset : ℕ) → offset + length rest ≡ length us → IsOffsetOf form us index offset
     left-offset offset e =
         let long : length (encode form (take index (chars form us))) ≡ offset = omega (arith, left-length) in
         subst (λ n. IsOffsetOf form us index n) long (IsOffsetOf-prefix form us well index)
 
-    -- The rest after a prefix of so many characters.
+    -- What is left after a prefix of so many characters.
     pub left-prefix : (prefix others : List ℕ) (count : ℕ) → prefix ++ others ≡ rest → IsWellFormed form prefix → IsWellFormed form others → count ≡ length (chars form prefix) → count + index ≤ length (chars form us) × IsLeftFrom form us others (index + count)
     left-prefix prefix others count joined before after counted =
         let split : drop index (chars form us) ≡ chars form prefix ++ chars form others =

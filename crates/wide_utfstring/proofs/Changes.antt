@@ -36,7 +36,7 @@ module _ {X : Type 0} (form : EncodingForm) (number : X → ℕ) (old now : Unit
       IsTextRange-of_chars form (map number old.units) (start_index start) (end_index end (length old.units)) (subst (λ s. IsCharPart form number s.units start end) (sym view) part)
 
   module _ (well : IsWellFormed form (map number old.units)) (new : Units X) {A E : Type 0} (r : Result A E) where
-    -- The numbers of the units after a call that succeeded.
+    -- What is known after a call that succeeded: the numbers of the units.
     module _ (vs : List ℕ) (is : OnOk r (map number new.units ≡ vs)) where
       still : IsWellFormed form vs → OnErr r (new ≡ old) → IsWellFormed form (map number new.units)
       still whole err = kept form number r old new well (on_ok r (λ e. subst (IsWellFormed form) (sym e) whole) is) err
@@ -44,7 +44,7 @@ module _ {X : Type 0} (form : EncodingForm) (number : X → ℕ) (old now : Unit
       has : (cs : List ℕ) → chars form vs ≡ cs → OnOk r (chars form (map number new.units) ≡ cs)
       has cs same = on_ok r (λ e. ap (chars form) e ∙ same) is
 
-    -- The units themselves.
+    -- What is known after a call that succeeded: the units themselves.
     module _ (ys : List X) (is : OnOk r (new.units ≡ ys)) where
       still-units : IsWellFormed form (map number ys) → OnErr r (new ≡ old) → IsWellFormed form (map number new.units)
       still-units whole err = kept form number r old new well (on_ok r (λ e. subst (λ zs. IsWellFormed form (map number zs)) (sym e) whole) is) err
@@ -52,7 +52,7 @@ module _ {X : Type 0} (form : EncodingForm) (number : X → ℕ) (old now : Unit
       has-units : (cs : List ℕ) → chars form (map number ys) ≡ cs → OnOk r (chars form (map number new.units) ≡ cs)
       has-units cs same = on_ok r (λ e. ap (λ zs. chars form (map number zs)) e ∙ same) is
 
-    -- Text was appended.
+    -- What holds if text was appended.
     module _ (added : List ℕ) (is : OnOk r (map number new.units ≡ map number old.units ++ added)) where
       pub appended-well : IsWellFormed form added → OnErr r (new ≡ old) → IsWellFormed form (map number new.units)
       appended-well fine err = still (map number old.units ++ added) is (IsWellFormed-append form (map number old.units) added well fine) err
@@ -72,7 +72,7 @@ module _ {X : Type 0} (form : EncodingForm) (number : X → ℕ) (old now : Unit
           (has-units (old.units ++ added) is (chars form (map number old.units) ++ chars form (map number seen))
           (ap (chars form) (map-append number old.units added) ∙ chars-append form (map number old.units) (map number added) well ∙ ap (λ zs. chars form (map number old.units) ++ chars form (map number zs)) same))
 
-    -- Text replaced the part between two boundaries.
+    -- What holds if text replaced the slice between two boundaries.
     module _ (from to : ℕ) (first : IsBoundary form (map number old.units) from) (last : IsBoundary form (map number old.units) to) where
       module _ (put : List ℕ) (fine : IsWellFormed form put) (is : OnOk r (map number new.units ≡ splice (map number old.units) from to put)) where
         pub spliced-well : OnErr r (new ≡ old) → IsWellFormed form (map number new.units)
@@ -101,7 +101,7 @@ module _ {X : Type 0} (form : EncodingForm) (number : X → ℕ) (old now : Unit
             subst (λ s. OnOk r (chars form (map number new.units) ≡ splice (chars form (map number s.units)) (chars_before form (map number s.units) from) (chars_before form (map number s.units) to) (chars form (map number seen)))) view
             (replaced-old seen same)
 
-    -- Text replaced a part whose ends are bounds.
+    -- What holds if text replaced the slice between two bounds.
     module _ (start end : Bound ℕ) (part : IsCharPart form number now.units start end) (put : List X) (fine : IsWellFormed form (map number put)) (is : OnOk r (new.units ≡ splice old.units (start_index start) (end_index end (length old.units)) put)) where
       range : IsTextRange form (map number old.units) (start_index start) (end_index end (length old.units))
       range = part-in start end part

@@ -113,7 +113,7 @@ module _ {X : Type 0} (form : EncodingForm) (number : X → ℕ) (xs : List X) (
     back_others : chars form (map number (slice_range xs prefix (back - n))) ≡ cs
     back_others = ap (chars form) to_back ∙ last_others form us well c cs e
 
--- For a string of `total` units, which may have lost some.
+-- What a drain reads of a string of `total` units, which may have lost the range.
 module _ {X Y : Type 0} (xs : List X) (total : ℕ) (there gone : Y) where
   while_whole : length xs ≡ total → (if nat_eq (length xs) total then there else gone) ≡ there
   while_whole e = rw (eq-eqb (length xs) total e)

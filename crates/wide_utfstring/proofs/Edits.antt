@@ -33,7 +33,7 @@ module _ {X : Type 0} (form : EncodingForm) (number : X → ℕ) where
   prefix_of xs len well (inl past) = subst (λ ys. IsWellFormed form (map number ys)) (sym (take_all len xs past)) well
   prefix_of xs len well (inr at) = IsWellFormed-map_take form number xs well len at
 
-  -- The characters of such a prefix.
+  -- The characters of a prefix that ends at a boundary, or past the end.
   pub prefix_text : (xs : List X) (len : ℕ) → IsWellFormed form (map number xs) → (length xs ≤ len) ⊎ IsBoundary form (map number xs) len
       → chars form (map number (take len xs)) ≡ take (chars_before form (map number xs) len) (chars form (map number xs))
   prefix_text xs len well (inl past) =

@@ -30,7 +30,7 @@ module _ (first : List ℕ) (from : ℕ) (all : List ℕ) where
               ap (λ xs. xs ++ rest) (text (omega (arith, fits, space))) ∙ append_assoc (take at old) bs rest ∙ w.written (omega (arith, fits, space, offset, w.most));
         }
 
-    -- the same where the chunk and the rest are given as a division of what was left
+    -- one more chunk was put, where the chunk and the rest are given as a division of what was left
     pub next_part : (left : List ℕ) → left ≡ bs ++ rest → Puts first from all at old left → end ≡ min (at + length bs) (2 ^ 64 - 1) → (end ≤ length old → take end new ≡ take at old ++ bs) → length new ≡ length old → Puts first from all end new rest
     next_part left parts w offset text space = one_more (subst (λ (us : List ℕ). Puts first from all at old us) parts w) offset text space
 

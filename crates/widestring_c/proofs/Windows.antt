@@ -36,7 +36,7 @@ take-window xs ys at len n within short =
 pub length-window : {X : Type 0} (xs ys : List X) (at len : ℕ) → at + len ≤ length xs → length ys ≡ len → length (put_mid at len xs ys) ≡ length xs
 length-window xs ys at len within long = omega (arith, within, long, length-append (take at xs) (ys ++ post_of at len xs), length-append ys (post_of at len xs), length-take at xs, length-drop at xs, length-drop len (drop at xs))
 
--- so these units are the next ones of the result
+-- the units that are written at the start of a subslice are the next ones of the result
 pub one_window : {X : Type 0} (number : X → ℕ) (first : List ℕ) (from : ℕ) (all : List ℕ) (old ys : List X) (rest : List ℕ) (at len n : ℕ) → Puts first from all at (map number old) (map number (take n ys) ++ rest)
     → at + len ≤ length old → length old < 2 ^ 64 - 1 → length ys ≡ len → n ≤ len → Puts first from all (at + n) (map number (put_mid at len old ys)) rest
 one_window number first from all old ys rest at len n puts within space long short =

@@ -55,7 +55,7 @@ unit_fits (a ∷ b ∷ c ∷ []) all short = below_three (digit_value a) (digit_
 unit_fits (a ∷ b ∷ c ∷ d ∷ []) all short = below_four (digit_value a) (digit_value b) (digit_value c) (digit_value d) all.0 all.1.0 all.1.1.0 all.1.1.1.0
 unit_fits (a ∷ b ∷ c ∷ d ∷ e ∷ ds) all short = absurd (omega arith)
 
--- these digits are parsed
+-- at most four hexadecimal digits are parsed as a unit
 pub unit_parsed : {E : Type 0} (digits : List ℕ) (r : Result ℕ E) → ParsesUnsigned 16 16 digits r → IsNumeral 16 digits → length digits ≤ 4 → IsSome (result_ok r)
 unit_parsed digits (Ok n) parses numeral short = refl
 unit_parsed digits (Err e) parses numeral short =

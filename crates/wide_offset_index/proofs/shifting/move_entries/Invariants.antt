@@ -8,7 +8,7 @@ use Rattle.wide_offset_index.specs.Counted.{counted}
 use Rattle.wide_offset_index.specs.Marks.{index_entry}
 use Rattle.wide_offset_index.proofs.shifting.move_entries.Given as goal
 
--- The loop invariant: the entries before number `number` are those of the text, and the others are as they were.
+-- The loop invariant: the entries before number `number` are those of the text, and the others are unchanged.
 abbrev pub invariant-loop-number : goal.invariant-loop-number
 invariant-loop-number l =
     let cs = chars Utf16 (units_seen l.fn.text) in

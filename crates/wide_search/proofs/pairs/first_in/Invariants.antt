@@ -2,7 +2,7 @@ use Rattle.std.proofs.Common.{◌-◌, ◌<◌, ◌≤◌, ℕ, length, map}
 use Rattle.wide_search.specs.Probes.{BothMatchAt}
 use Rattle.wide_search.proofs.pairs.first_in.Given as goal
 
--- The two units stand at no index before `at`.
+-- The two units match at no index before `at`.
 abbrev pub invariant-loop-at : goal.invariant-loop-at
 invariant-loop-at g l = (l.at ≤ length l.back) × ((k : ℕ) → k < l.at → ¬ (BothMatchAt (g.L.Lane.number l.first) (g.L.Lane.number l.last) (map g.L.Lane.number l.front) (map g.L.Lane.number l.back) k))
 

@@ -2,7 +2,7 @@ use Rattle.std.proofs.Common.{◌<◌, ◌≤◌, ℕ, length, map}
 use Rattle.wide_search.specs.Probes.{BothMatchAt}
 use Rattle.wide_search.proofs.pairs.last_in.Given as goal
 
--- The two units stand at no index from `end` on.
+-- The two units match at no index from `end` on.
 abbrev pub invariant-loop-end : goal.invariant-loop-end
 invariant-loop-end g l = (l.end ≤ length l.back) × ((k : ℕ) → l.end ≤ k → k < length l.back → ¬ (BothMatchAt (g.L.Lane.number l.first) (g.L.Lane.number l.last) (map g.L.Lane.number l.front) (map g.L.Lane.number l.back) k))
 

@@ -2,7 +2,7 @@ use Rattle.std.proofs.Common.{◌≡◌, ◌-◌, ◌+◌, ◌<◌, ◌≤◌, �
 use Rattle.wide_search.specs.NextOccurrences.{number_from, OccursFrom}
 use Rattle.wide_search.proofs.two_way.next_occurrence.Given as goal
 
--- The needle occurs at none of the offsets before `at`, and its first units, as many as are known, stand there.
+-- The needle occurs at none of the offsets before `at`, and its first `known` units match at `at`.
 abbrev pub invariant-loop-at : goal.invariant-loop-at
 invariant-loop-at g l = record {
   within : l.at ≤ length l.units;

@@ -38,7 +38,7 @@ split_at-requires g c =
           (λ here. let yes = c.is_char_boundary.ensures.char_boundary.1 here in let no = w.if-is_char_boundary.false in absurd cc))
     ]
 
--- As many units as characters were asked for have no more characters.
+-- Units have at most as many characters as units.
 passed-within : {X : Type 0} (form : EncodingForm) (number : X → ℕ) (prefix rest : List X) (end passed count index : ℕ) → IsWellFormed form (map number prefix) → end ≤ index - passed → passed ≤ index → prefix ≡ take end rest → count ≡ length (chars form (map number prefix)) → passed + count ≤ index
 passed-within form number prefix rest end passed count index well few below is counted = omega (arith, few, below, ap length is, length-take end rest, chars-at_most form number prefix well, counted)
 
