@@ -1,7 +1,7 @@
 //! Ordinary callers of the library, as an application would write them: each is proved without a proof file.
 //!
-//! They show that what a call requires follows from the contracts of other calls: offsets that a call returned, offsets
-//! of the ends, and offsets that the caller has compared. `CALLING.md` begins with some of them. The modules
+//! The callers show that what a call requires follows from the contracts of other calls: offsets that a call returned,
+//! offsets of the ends, and offsets that the caller has compared. `CALLING.md` begins with some of them. The modules
 //! `examples_*` state what a call returns, mostly at concrete units: each fails if the call's contract no longer
 //! implies it.
 #![tactic(auto)]

@@ -57,7 +57,7 @@ fn first_char<C: FaultUnit>(needle: UStr<'_, C>) -> char {
         .unwrap_or(char::REPLACEMENT_CHARACTER)
 }
 
-// Returns the lengths of two parts as one number.
+// Returns the lengths of the two substrings of a split as one number.
 fn lengths<C: FaultUnit>(parts: Option<(UStr<'_, C>, UStr<'_, C>)>) -> u64 {
     match parts {
         Some((before, after)) => (before.len() as u64)
@@ -67,7 +67,7 @@ fn lengths<C: FaultUnit>(parts: Option<(UStr<'_, C>, UStr<'_, C>)>) -> u64 {
     }
 }
 
-// Returns the lengths of all parts of the text as one number.
+// Returns the lengths of all substrings of a split as one number.
 fn parts<C: FaultUnit>(input: &Input<'_, C>, is_char: bool) -> u64 {
     let mut sum = 0u64;
     if is_char {

@@ -11,7 +11,7 @@ use widestring::error::OutOfMemory;
 
 const UNITS: usize = 300_000;
 
-// Appends a word between two parts.
+// Appends a word between two texts.
 fn push_word(
     words: &mut Words,
     before: &str,

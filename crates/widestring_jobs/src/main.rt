@@ -81,7 +81,7 @@ fn run(order: Order<'_>, lines: &mut String) -> Result<(), OutOfMemory> {
     Ok(())
 }
 
-// Returns the order that the words give, if they do.
+// Returns the order that the arguments give, or `None` if they give none.
 fn order_of<'a>(alloc: Global, words: &'a [String]) -> Option<Order<'a>> {
     let [name, rounds, divisor, seed, ..] = words else {
         return None;

@@ -46,7 +46,7 @@ fn print(
     }
 }
 
-// Returns what stands in place of a unit: a control character, a combining mark, an unpaired surrogate or itself.
+// Returns what replaces a unit: a control character, a combining mark, an unpaired surrogate or the unit itself.
 fn rough(random: &mut Random, unit: u16) -> u16 {
     match random.below(12) {
         0 => 0x07,
@@ -56,14 +56,14 @@ fn rough(random: &mut Random, unit: u16) -> u16 {
     }
 }
 
-// Puts a control character, a combining mark or an unpaired surrogate in place of some units.
+// Replaces some units by a control character, a combining mark or an unpaired surrogate.
 fn roughen(random: &mut Random, units: &mut [u16]) {
     for unit in units {
         *unit = rough(random, *unit);
     }
 }
 
-// Prints parts of a text.
+// Prints substrings of a text.
 fn print_parts(words: &mut Words, units: &[u16], log: &mut String) -> Result<(), OutOfMemory> {
     for number in 0..words.size(STRINGS) {
         let part = words.part(units, 3, 60);

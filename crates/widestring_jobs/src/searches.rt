@@ -11,8 +11,8 @@ const UNITS: usize = 200_000;
 
 const NEEDLES: usize = 40;
 
-// Makes a needle of a part of a text, which occurs there but for the unit in its middle, which becomes another letter.
-// So the needle occurs rarely, if at all.
+// Makes a needle of a substring of a text: the unit in its middle becomes another letter. So the needle occurs rarely,
+// if at all.
 fn make_rare(
     random: &mut Random,
     part: U16Str<'_>,
@@ -39,7 +39,7 @@ fn find(number: usize, text: U16Str<'_>, needle: U16Str<'_>, digest: &mut Digest
     digest.offset(offset);
 }
 
-// Searches a text for a part of it, or for a needle that occurs rarely or never.
+// Searches a text for a substring of it, or for a needle that occurs rarely or never.
 fn find_next(
     words: &mut Words,
     number: usize,
@@ -66,7 +66,7 @@ fn find_in(words: &mut Words, units: &[u16], digest: &mut Digest) -> Result<(), 
     Ok(())
 }
 
-// Adds the lengths of the parts of a text between words to a sum.
+// Adds the lengths of the substrings of a text between words to a sum.
 fn split_at_words(sum: u64, text: U16Str<'_>, word: U16Str<'_>) -> u64 {
     let mut sum = sum;
     for part in text.split(word) {
@@ -75,7 +75,7 @@ fn split_at_words(sum: u64, text: U16Str<'_>, word: U16Str<'_>) -> u64 {
     sum
 }
 
-// Adds the lengths of the parts of a text between characters to a sum.
+// Adds the lengths of the substrings of a text between characters to a sum.
 fn split_at_chars(sum: u64, text: Utf16Str<'_>) -> u64 {
     let mut sum = sum;
     for part in text.split_char('e') {

@@ -43,7 +43,7 @@ fn widen(alloc: Global, text: &str, digest: &mut Digest) -> Result<(), OutOfMemo
     Ok(())
 }
 
-// Adds lossy text in UTF-16, the text in UTF-32, and the former as a C string.
+// Adds lossy text in UTF-16, the text in UTF-32, and the lossy text as a C string.
 fn add_forms(
     alloc: Global,
     text: &str,
@@ -120,7 +120,7 @@ fn compare(table: &[U16String], digest: &mut Digest) {
     digest.number(less);
 }
 
-// Replaces the units of a buffer by a part of a text and a fault near its end.
+// Replaces the units of a buffer by a substring of a text and a fault near its end.
 fn make_faulty(part: U16Str<'_>, buffer: &mut Vec<u16>) -> Result<(), OutOfMemory> {
     buffer.clear();
     buffer.extend_from_slice(part.as_slice())?;
@@ -145,7 +145,7 @@ fn read_next(
     read(alloc, part, table, digest)
 }
 
-// Reads strings, which are parts of a text.
+// Reads strings, which are substrings of a text.
 fn read_strings(
     words: &mut Words,
     units: &[u16],

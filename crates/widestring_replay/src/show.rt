@@ -27,8 +27,8 @@ impl ReportedUnit for u32 {
 
 /// An answer that is being written. Once a write or the question has failed, there is no answer in the end.
 ///
-/// What adds to an answer returns nothing, and records by `fail` why there is none. So it holds nothing when it returns
-/// early, which makes it cheap to prove.
+/// A function that adds to an answer returns nothing, and records by `fail` why there is no answer. So the function
+/// holds nothing when it returns early, which makes it cheap to prove.
 #[derive(Drop)]
 pub struct Answer {
     text: String,
@@ -44,7 +44,7 @@ impl Answer {
         }
     }
 
-    /// Records why there is no answer. The first reason stands.
+    /// Records why there is no answer. Only the first reason is recorded.
     pub fn fail(&mut self, why: NoAnswer) {
         if self.failure.is_none() {
             self.failure = Some(why);

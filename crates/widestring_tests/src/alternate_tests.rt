@@ -1,5 +1,5 @@
-//! A test that `{:#?}` prints a text on one line, as `{:?}` does, where it stands in another value. The test vectors of
-//! `prints16` and `prints32` say so of each type alone.
+//! A test that `{:#?}` prints a text on one line, as `{:?}` does, where it is within another value. The test vectors of
+//! `prints16` and `prints32` test it of each type alone.
 use crate::all_hold::all_hold;
 use std::alloc::{AllocError, Global};
 use std::fmt;

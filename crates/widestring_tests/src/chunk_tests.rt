@@ -54,10 +54,11 @@ impl File<'_> {
 // What happens at a fault.
 #[derive(Clone, Copy, PartialEq, Eq)]
 enum Run {
-    // By `transcode`: the run ends, or U+FFFD is written.
+    // By `transcode`: the run ends.
     Strict,
+    // By `transcode`: U+FFFD is written.
     Lossy,
-    // By `transcode_with`.
+    // By `transcode_with`: what the policy says.
     With(Policy),
 }
 

@@ -78,13 +78,14 @@ fn expected<C: Coded>(way: Way, units: &[C]) -> Option<u64> {
     }
 }
 
-// Returns whether units print in each way what its loop prints.
+// Returns whether units print in each way what the loop of that way prints.
 fn prints_each<C: Coded>(units: &[C]) -> bool {
     WAYS.iter().all(|way| printed::<C>(*way, units) == expected::<C>(*way, units))
 }
 
-// Returns the same for a block of units, of which `last` is the last number. Well-formed units print the same in each
-// way, so one loop is enough. Where nearly all characters are escaped, by up to ten writes each, the ways take turns.
+// Returns whether a block of units, of which `last` is the last number, prints in each way what its loop prints.
+// Well-formed units print the same in each way, so one loop is enough. Where nearly all characters are escaped, by up
+// to ten writes each, the ways take turns.
 fn prints_block<C: Coded>(units: &[C], last: u32) -> bool {
     if UStr::from_slice(units).chars().any(|item| item.is_err()) {
         return prints_each::<C>(units);

@@ -160,7 +160,7 @@ impl<C: ReadUnit> Case<'_, C> {
         offset
     }
 
-    // Returns whether a character stands at one of the offsets, before or after.
+    // Returns whether the index is one of the offsets, or the one before or after it.
     fn is_near(&self, index: usize) -> bool {
         let mut is_near = false;
         for offset in self.offsets {
@@ -169,7 +169,8 @@ impl<C: ReadUnit> Case<'_, C> {
         is_near
     }
 
-    // Returns whether each character begins at the right offset, the end too, and no character after it.
+    // Returns whether each character begins at the right offset, the text ends at the right one, and no character
+    // follows.
     fn has_offsets(&self, view: UtfStr<'_, C>) -> bool {
         let more = self
             .kind
@@ -201,7 +202,7 @@ impl<C: ReadUnit> Case<'_, C> {
             && differs(view, &mut other)
     }
 
-    // Returns whether the units are this text, which is lossy if there is a fault.
+    // Returns whether the calls that convert no faults return this text, or, if the units have a fault, fail.
     fn is_whole(&self, alloc: Global, text: &str, is_faulty: bool) -> bool {
         let well = match C::to_text(alloc, self.units) {
             Some(made) => !is_faulty && made.as_str() == text,
@@ -220,8 +221,8 @@ impl<C: ReadUnit> Case<'_, C> {
             && self.is_lossy(alloc, policy, &text)
     }
 
-    // Returns whether the calls that mark each fault, and those that convert no faults, agree with the standard
-    // library.
+    // Returns whether the calls that write U+FFFD for each fault, and those that convert no faults, agree with the
+    // standard library.
     fn holds_by_each(&self, alloc: Global, chars: &[Option<char>]) -> bool {
         let (mut text, mut middle) = (String::new(alloc), String::new(alloc));
         let view = UStr::from_slice(self.units);

@@ -38,7 +38,7 @@ macro_rules! ends_after {
     }};
 }
 
-// Each iterator has a function of its own, whose proof holds only this one.
+// Each iterator has a function of its own, so that no proof holds two iterators.
 fn utf16_ends() -> bool {
     let unpaired = Err(DecodeUtf16Error::new(0xd800));
     ends_after!(decode_utf16(again(0xd800)), [unpaired])

@@ -1,5 +1,5 @@
 //! Tests of searches at both widths: for needles that repeat themselves, in texts that nearly do, where so many units
-//! are compared in vain that the two-way search takes over, and for two units of which the first also stands alone. The
+//! are compared in vain that the two-way search takes over, and for two units of which the first also occurs alone. The
 //! expected offsets are those of a loop over all windows.
 use crate::all_hold::{all_hold, case_holds};
 use crate::random::Random;
@@ -123,7 +123,7 @@ fn push_needle(needle: &mut Vec<u16>, side: usize) -> Result<(), AllocError> {
     push_equals(needle, side)
 }
 
-// Makes a text of equal units, before which `front` stands, and after which `back` stands, and equal units again.
+// Appends `front`, equal units, `back` and equal units again.
 fn push_between(
     units: &mut Vec<u16>,
     front: &[u16],
@@ -136,8 +136,8 @@ fn push_between(
     push_equals(units, side)
 }
 
-// Returns whether a needle of equal units but one in the middle is found in equal units, before which `front` stands,
-// and after which `back` stands.
+// Returns whether the searches agree with the loop for a needle of equal units but one in the middle, in the units
+// `front`, equal units, `back` and equal units again.
 fn is_found_in_equals(alloc: Global, side: usize, front: &[u16], back: &[u16]) -> bool {
     let (mut units, mut needle) = (Vec::new(alloc), Vec::new(alloc));
     push_needle(&mut needle, side).is_ok()
@@ -175,8 +175,8 @@ fn push_others(random: &mut Random, units: &mut Vec<u16>, count: usize) -> Resul
     Ok(())
 }
 
-// Makes units of which the first and the last ones alone are equal to those of the needle, with so many others before
-// the needle.
+// Appends 600 units that the needle has, `others` units that it does not have, in two of three cases the needle, up to
+// 9,000 other units again, and 600 units that the needle has.
 fn push_around(
     random: &mut Random,
     units: &mut Vec<u16>,
@@ -193,9 +193,9 @@ fn push_around(
     push_equals(units, 600)
 }
 
-// Returns whether a needle of equal units but one in the middle is found in units of which the first and the last ones
-// alone are equal to them, with so many others before the needle. For most needles the two-way search takes over among
-// the first ones, and stops in the others or finds the needle before.
+// Returns whether the searches agree with the loop for a needle of equal units but one in the middle, in a text whose
+// first and last units alone are equal to those, with `others` different units before the needle. For most needles the
+// two-way search takes over among the first units, and stops in the different ones or finds the needle before.
 fn is_found_among_others(alloc: Global, seed: u64, others: usize) -> bool {
     let mut random = Random::new(seed);
     let side = random.below(30).saturating_add(2);
@@ -217,8 +217,8 @@ fn equals_around_others(rt: HostRuntime) {
     }
 }
 
-// Appends units of which two stand at an offset, if both fit a text of this length. The first of them stands at each
-// multiple of `step` too.
+// Appends units of which two are at an offset, if both fit a text of this length. The first of them is at each multiple
+// of `step` too.
 fn push_after(units: &mut Vec<u16>, len: usize, step: usize, at: usize) -> Result<(), AllocError> {
     for index in 0..len {
         units.push(if index == at.saturating_add(1) {
@@ -232,8 +232,8 @@ fn push_after(units: &mut Vec<u16>, len: usize, step: usize, at: usize) -> Resul
     Ok(())
 }
 
-// Returns whether the searches agree with the loop where two units stand at an offset, if both fit a text of this
-// length. The first of them stands at each multiple of `step` too.
+// Returns whether the searches agree with the loop where two units are at an offset, if both fit a text of this length.
+// The first of them is at each multiple of `step` too.
 fn is_found_after(alloc: Global, len: usize, step: usize, at: usize) -> bool {
     let mut units = Vec::new(alloc);
     push_after(&mut units, len, step, at).is_ok() && is_found(alloc, &units, &[1, 2])
@@ -247,7 +247,8 @@ static STEPS: [(usize, [usize; 6]); 5] = [
     (5000, [0, 254, 257, 11_997, 11_998, 11_999]),
 ];
 
-// Returns whether the searches agree with the loop for 12,000 units and each of these offsets.
+// Returns whether the searches agree with the loop for a text of 12,000 units, where two units are at one of the
+// offsets, and the first of them is at each multiple of `step` too.
 fn are_found_after(alloc: Global, step: usize, offsets: &[usize]) -> bool {
     let mut well = true;
     for at in offsets {
@@ -256,9 +257,9 @@ fn are_found_after(alloc: Global, step: usize, offsets: &[usize]) -> bool {
     well
 }
 
-// The two units stand together at one offset alone, and the first of them in many other places. A search goes from one
-// first unit to the next, then looks for both at up to 4,096 offsets, then for the first one again. These offsets are
-// around the ends of such stretches, near the ends of the text, or alone.
+// The needle of two units occurs at one offset alone, and its first unit at many other offsets. A search goes from one
+// first unit to the next, then looks for both at up to 4,096 offsets, then for the first one again. The offsets are
+// around the ends of such stretches, near the ends of the text, or far from both.
 #[test]
 fn two_units_after_the_first_alone(rt: HostRuntime) {
     for row in 0..STEPS.len() {
@@ -272,8 +273,7 @@ fn two_units_after_the_first_alone(rt: HostRuntime) {
     }
 }
 
-// Appends units of which two stand at an offset, if both fit a text of this length, and neither of them stands anywhere
-// else.
+// Appends units of which two are at an offset, if both fit a text of this length, and neither of them occurs elsewhere.
 fn push_alone(units: &mut Vec<u16>, len: usize, at: usize) -> Result<(), AllocError> {
     for index in 0..len {
         units.push(if index == at {
@@ -287,8 +287,8 @@ fn push_alone(units: &mut Vec<u16>, len: usize, at: usize) -> Result<(), AllocEr
     Ok(())
 }
 
-// Returns whether the searches agree with the loop where two units stand at an offset, if both fit a text of this
-// length, and neither of them stands anywhere else.
+// Returns whether the searches agree with the loop where two units are at an offset, if both fit a text of this length,
+// and neither of them occurs elsewhere.
 fn is_found_alone(alloc: Global, len: usize, at: usize) -> bool {
     let mut units = Vec::new(alloc);
     push_alone(&mut units, len, at).is_ok() && is_found(alloc, &units, &[1, 2])

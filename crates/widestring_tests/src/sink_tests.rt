@@ -1,5 +1,6 @@
-//! Tests of what a sink holds at an error, if it takes a write whole or not at all: printing hands on each character as
-//! a write of its own, in the same writes as a loop over them, so every character before the failed write is held.
+//! Tests of what a sink holds at an error, if it takes a write whole or not at all: printing passes each character to
+//! the sink as a write of its own, in the same writes as a loop over the characters, so the sink holds every character
+//! before the failed write.
 use crate::all_hold::case_holds;
 use crate::coded::{Coded, push_numbers};
 use crate::print_loops::{Items, Lossy, LossyChars, PolicyChars, Skipping};

@@ -120,7 +120,7 @@ impl Write for Output {
     }
 }
 
-// Returns whether a run of this status ends with the other one, and writes these lines in one call.
+// Returns whether a run that returns `status` ends with the status `last`, and writes the lines `said` in one call.
 fn ends_with(alloc: Global, fails: bool, status: u8, last: u8, said: &[u8]) -> bool {
     let mut faults = whole(alloc, 4096);
     let mut well = finish(&mut Output { fails }, &mut faults, status) == last;

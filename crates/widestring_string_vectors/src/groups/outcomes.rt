@@ -1,4 +1,4 @@
-//! What comes of a call of the library: an error, a string in place of another one.
+//! What comes of a call of the library: an error, a string that replaces another.
 use widestring::error::OutOfMemory;
 use widestring_replay::parse::NoAnswer;
 use widestring_replay::show::Answer;
@@ -12,7 +12,8 @@ pub fn replaced<T: Drop>(string: &mut T, answer: &mut Answer, made: Result<T, Ou
     }
 }
 
-/// Replaces a string by the string of items. If a request failed, by that of the items before it.
+/// Replaces a string by the string of items. If a request failed, replaces it by the string of the items before the
+/// failure.
 pub fn collected<T: Drop>(string: &mut T, answer: &mut Answer, made: Result<T, T>) {
     match made {
         Ok(made) => *string = made,
@@ -23,7 +24,7 @@ pub fn collected<T: Drop>(string: &mut T, answer: &mut Answer, made: Result<T, T
     }
 }
 
-/// Adds what a call answers whose request failed: a `?` if it did not leave the string as its contract says, and a `-`
+/// Adds the field of a call whose request failed: a `?` if it did not leave the string as its contract says, and a `-`
 /// if the string would be too long, with no request. Otherwise records the failure.
 pub fn failed(heap: &Heap, answer: &mut Answer, is_kept: Result<bool, NoAnswer>) {
     match is_kept {

@@ -21,9 +21,9 @@ pub type Text<'a, C> = UtfString<C, &'a Heap>;
 /// How a call takes items.
 #[derive(Clone, Copy)]
 pub enum How {
-    /// It extends a string.
+    /// The call extends a string by the items.
     Extend,
-    /// It makes a string of them, in place of another one.
+    /// The call makes a string of the items, which replaces another.
     Make,
 }
 

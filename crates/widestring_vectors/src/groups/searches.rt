@@ -32,7 +32,7 @@ fn add_counts(answer: &mut Answer, counts: &[Option<usize>]) {
     }
 }
 
-// Adds whether a view contains a part, begins and ends with it.
+// Adds whether a view contains a needle, begins and ends with it.
 macro_rules! decided {
     ($answer:expr, $view:expr, $part:expr) => {
         add_decided(
@@ -46,7 +46,8 @@ macro_rules! decided {
     };
 }
 
-// Adds where a view has a part and a character, and how many units it has without the part.
+// Adds where a view has a needle and a character, and how many units are left after the needle is stripped at the start
+// and at the end.
 macro_rules! located {
     ($answer:expr, $view:expr, $part:expr, $c:expr) => {
         add_counts(
@@ -63,7 +64,7 @@ macro_rules! located {
     };
 }
 
-// Adds how many units of a view precede and follow a part, at first and at last.
+// Adds how many units of a view precede and follow a needle, at its first offset and at its last.
 macro_rules! halved {
     ($answer:expr, $view:expr, $part:expr) => {
         for halves in [$view.split_once($part), $view.rsplit_once($part)] {
@@ -78,7 +79,7 @@ macro_rules! halved {
     };
 }
 
-// Adds the lengths of the substrings that a part splits a view into.
+// Adds the lengths of the substrings that a needle splits a view into.
 macro_rules! split {
     ($answer:expr, $view:expr, $part:expr) => {
         for piece in $view.split($part) {

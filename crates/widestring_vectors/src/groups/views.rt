@@ -3,7 +3,7 @@
 //!
 //! - `whole` is the length, whether it is empty, and the units; for a C string also the units with the NUL.
 //! - `part` and a range is what `get`, `slice` and `get_unchecked` return for it, or a `-`, and `split` and an offset
-//!   both halves.
+//!   the two views that it splits the view into.
 //! - `made` for text is the text that is made of a view and of a C string, checked and not checked, or the first fault
 //!   and a `-`, as the error returns no vector; for a C string it is what is made of its units unchecked, and a copy of
 //!   the view.
@@ -37,7 +37,7 @@ macro_rules! part_of {
     }};
 }
 
-// Adds both halves of a view, if it can be split at an offset.
+// Adds the two views that a view is split into, if it can be split at an offset; else a `-`.
 macro_rules! halves {
     ($answer:expr, $view:expr, $can_split:expr, $mid:expr) => {
         if $can_split {
