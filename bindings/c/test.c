@@ -55,7 +55,7 @@ static void fail(const char *why) {
     exit(1);
 }
 
-/* Memory after whose end nothing may be read or written. */
+/* Returns the end of memory after which nothing may be read or written. */
 static unsigned char *edge(void) {
     size_t page = (size_t)sysconf(_SC_PAGESIZE), size = (4 * CAPACITY / page + 1) * page;
     unsigned char *memory = mmap(NULL, size + page, PROT_READ | PROT_WRITE, MAP_PRIVATE | MAP_ANONYMOUS, -1, 0);
@@ -79,7 +79,7 @@ static uint32_t load(const void *from, int width, size_t at) {
     return width == 2 ? ((const uint16_t *)from)[at] : ((const uint32_t *)from)[at];
 }
 
-/* The text directly before the edge, or NULL if it is empty. */
+/* Stores a text directly before the end of memory, and returns its start, or NULL if the text is empty. */
 static void *at_edge(unsigned char *end, const struct text *text) {
     unsigned char *memory = end - text->length * (size_t)text->width;
     for (size_t at = 0; at < text->length; at++)
@@ -110,8 +110,8 @@ static void encode(struct text *text, uint32_t c) {
 }
 
 /*
- * The length in bytes of the character that begins at a byte, or minus the length of the maximal subpart if it does not
- * continue as one.
+ * Sets the character that begins at a byte of UTF-8, and returns its length in bytes; or, if none begins there, returns
+ * minus the length of the maximal subpart.
  */
 static int character_at(const struct text *text, size_t at, uint32_t *c) {
     uint32_t first = text->element[at], least = 0x80, greatest = 0xbf;
@@ -153,7 +153,7 @@ static void decode(const struct text *text, struct items *items) {
     items->offset[items->count] = at;
 }
 
-/* The index of the first fault among the items, or their number. */
+/* Returns the index of the first fault among the items, or the number of items if there is no fault. */
 static size_t fault_of(const struct items *items) {
     size_t at = 0;
     while (at < items->count && items->item[at] != FAULT)
@@ -162,7 +162,8 @@ static size_t fault_of(const struct items *items) {
 }
 
 /*
- * The text of the items in another width, with faults replaced by the policy. Without a policy, a fault means an error.
+ * Sets what a conversion should return and write: the text of the items in a width, with faults replaced by the policy.
+ * Without a policy, which is -1, a fault means an error.
  */
 static void convert(const struct items *items, int width, int policy, struct wanted *wanted) {
     wanted->text.width = width;
@@ -239,13 +240,13 @@ static const struct conversion {
     {"wide_utf8_to_utf32_lossy_with", call_utf8_to_utf32_lossy_with, 1, 4, WIDE_EACH, WIDE_SKIP + 1},
 };
 
-/* The conversions of UTF-16 in bytes. */
+/* The conversions of UTF-16 in bytes. Both read the byte order from `order`, and the lossy one reads `fault_before`. */
 static const struct conversion strict_bytes = {"wide_utf16_bytes_to_utf8", call_utf16_bytes_to_utf8, 2, 1, -1, -1};
 static const struct conversion lossy_bytes = {"wide_utf16_bytes_to_utf8_lossy_with", call_utf16_bytes_to_utf8_lossy_with, 2, 1, WIDE_EACH, WIDE_SKIP + 1};
 
 /*
- * Calls a function with a buffer of this size. `after` more elements follow it before the edge, and the call must not
- * touch them.
+ * Calls a function with a buffer of this size. Between the buffer and the end of writable memory are `after` more
+ * elements, and the call must not change them.
  */
 static void check_buffer(const struct conversion *it, const void *from, size_t length, int policy, const struct wanted *wanted,
                          unsigned char *end, size_t size, size_t after) {
@@ -286,7 +287,7 @@ static void equal(const char *call, size_t result, size_t wanted) {
         fail("another result");
 }
 
-/* Lengths and counts, and the offset of the first fault. */
+/* Checks the functions that return a length, a count, or the offset or item number of the first fault. */
 static void check_counts(const void *from, const struct text *text, const struct items *items) {
     static struct wanted to[3];
     size_t n = text->length, fault = fault_of(items), is_valid = fault == items->count;
@@ -313,7 +314,7 @@ static void check_counts(const void *from, const struct text *text, const struct
     }
 }
 
-/* The first offset at which the needle occurs in a text, or SIZE_MAX. */
+/* Returns the first offset at which the needle occurs in a text, or SIZE_MAX. */
 static size_t offset_of(const struct text *text, const struct text *needle) {
     for (size_t at = 0; at + needle->length <= text->length; at++)
         if (memcmp(&text->element[at], needle->element, needle->length * sizeof needle->element[0]) == 0)
@@ -321,7 +322,7 @@ static size_t offset_of(const struct text *text, const struct text *needle) {
     return SIZE_MAX;
 }
 
-/* A needle cut out of the text, or one with one unit changed. */
+/* Makes a needle of a substring of the text; in some of them one unit is changed. */
 static void cut_needle(const struct text *text, struct text *needle) {
     size_t first = random_below((uint32_t)text->length + 1), left = text->length - first;
     needle->width = text->width;
@@ -350,7 +351,10 @@ static void check_searches(const void *from, const struct text *text, unsigned c
     }
 }
 
-/* UTF-16 as bytes, with or without half a unit after them, directly before the edge, or NULL if there are none. */
+/*
+ * Stores UTF-16 as bytes, with or without half a unit after it, directly before the end of memory, and returns their
+ * start, or NULL if there are no bytes.
+ */
 static const uint8_t *bytes_at_edge(unsigned char *end, const struct text *text, size_t half) {
     size_t length = 2 * text->length + half;
     unsigned char *memory = end - length;
@@ -363,7 +367,7 @@ static const uint8_t *bytes_at_edge(unsigned char *end, const struct text *text,
     return length == 0 ? NULL : memory;
 }
 
-/* Bytes in chunks of random sizes, read as the header describes it. */
+/* Converts bytes in chunks of random sizes, as the header describes it, and compares the text. */
 static void check_stream(const uint8_t *from, size_t length, uint32_t policy, const struct items *items) {
     static struct wanted wanted;
     static uint8_t pending[2 * MOST + 2], text[CAPACITY];
@@ -388,7 +392,7 @@ static void check_stream(const uint8_t *from, size_t length, uint32_t policy, co
             fail("another text");
 }
 
-/* UTF-16 in bytes of either order, after a fault or not. */
+/* Checks the functions for UTF-16 in bytes, in either order, after a fault or not. */
 static void check_bytes(const struct text *text, const struct items *items, unsigned char *ends[3]) {
     uint8_t bom[2] = {(uint8_t)(0xfd + random_below(3)), (uint8_t)(0xfd + random_below(3))};
     uint32_t reported = bom[0] == 0xff && bom[1] == 0xfe ? WIDE_LITTLE_ENDIAN : bom[0] == 0xfe && bom[1] == 0xff ? WIDE_BIG_ENDIAN : WIDE_NO_BOM;
@@ -419,7 +423,7 @@ static void check_bytes(const struct text *text, const struct items *items, unsi
     equal("wide_utf16_bytes_to_utf8_lossy_with", wide_utf16_bytes_to_utf8_lossy_with(bom, 2, order, WIDE_EACH, 0, NULL, 0), WIDE_FAULT);
 }
 
-/* A random character: mostly ASCII, and of each length in UTF-8. */
+/* Returns a random character: mostly ASCII, and of each length in UTF-8. */
 static uint32_t random_character(uint32_t kinds) {
     static const uint32_t first[] = {0x20, 0x20, 0, 0x80, 0x800, 0xe000, 0x10000};
     static const uint32_t end[] = {0x7f, 0x7f, 0x80, 0x800, 0xd800, 0x10000, 0x110000};
@@ -427,7 +431,7 @@ static uint32_t random_character(uint32_t kinds) {
     return first[kind] + random_below(end[kind] - first[kind]);
 }
 
-/* A random element of any value, also one that no well-formed text has. */
+/* Returns a random element of any value, also one that no well-formed text has. */
 static uint32_t random_element(int width) {
     if (width == 1)
         return random_below(2) == 0 ? 0x80 + random_below(0x80) : random_below(0x100);

@@ -1,5 +1,5 @@
-// Two files of one program that are compiled differently, both from this text: bindings/check links them, and the one
-// with main calls the other.
+// Two object files of one program: bindings/check compiles this file twice, with different options, and links both. The
+// object with `main` calls the other one.
 #include <widestring.hpp>
 
 std::u16string elsewhere(std::string_view text);
@@ -9,7 +9,7 @@ std::u16string elsewhere(std::string_view text) {
     return widestring::to_utf16(text).value();
 }
 #else
-// A program may define an explicit instantiation only once. This program does, so the header must not define one.
+// A program may define an explicit instantiation only once. As this program defines one, the header must not.
 #if !defined(WIDESTRING_STD_ONLY) && !defined(__cpp_lib_string_resize_and_overwrite) && _GLIBCXX_USE_CXX11_ABI && _GLIBCXX_RELEASE <= 13
 template struct widestring::detail::SetLength<std::string, &std::string::_M_set_length>;
 #endif

@@ -8,7 +8,7 @@
 
 namespace {
 
-// Characters, and a fault in place of each ill-formed sequence.
+// The item of an ill-formed sequence; every other item of a text is a character.
 constexpr std::uint32_t fault = UINT32_MAX;
 
 struct Items {
@@ -33,7 +33,7 @@ bool is_scalar(std::uint32_t number) {
     return number < 0xd800 || (number > 0xdfff && number < 0x110000);
 }
 
-// Appends a character in its shortest form, by the number of its bits.
+// Appends a character in UTF-8: in its shortest form, by the number of its bits.
 void put(std::string &text, std::uint32_t c) {
     const int more = c < 0x80 ? 0 : c < 0x800 ? 1 : c < 0x10000 ? 2 : 3;
     static const std::uint32_t lead[] = {0, 0xc0, 0xe0, 0xf0};
@@ -59,8 +59,8 @@ void put(std::wstring &text, std::uint32_t c) {
     text.push_back(static_cast<wchar_t>(c));
 }
 
-// Returns the length of the first item, and sets the item: the character whose shortest form is at the start, or a
-// fault.
+// Returns the length of the first item of UTF-8, and sets the item: the character whose shortest form is at the start,
+// or a fault.
 std::size_t first_item(std::string_view rest, std::uint32_t &item) {
     const auto byte = [&](std::size_t at) { return at < rest.size() ? static_cast<unsigned char>(rest[at]) : 0u; };
     const unsigned lead = byte(0);
@@ -143,7 +143,7 @@ template <class String> std::optional<std::size_t> length_of(const std::optional
     return text ? std::optional(text->size()) : std::nullopt;
 }
 
-// Every function must return the same for numbers as for the view of the same elements.
+// Checks that every function for UTF-8 or bytes returns the same for numbers as for the view of the same elements.
 template <class Numbers> void compare(std::string_view text, const Numbers &numbers) {
     must(widestring::first_fault(numbers) == widestring::first_fault(text), "first_fault of numbers");
     must(widestring::valid(numbers) == widestring::valid(text), "valid of numbers");
@@ -202,7 +202,7 @@ template <class Numbers> void compare(std::u32string_view text, const Numbers &n
     must(widestring::to_utf16(numbers) == widestring::to_utf16(text), "to_utf16 of numbers");
 }
 
-// For every eighth text: a pointer with a length, and since C++20 spans, and what converts to one.
+// Compares, for every eighth text, numbers as a pointer with a length, and since C++20 as a span and as a vector.
 template <class Number, class View> void check_numbers(View text) {
     if (below(8) != 0)
         return;
@@ -233,7 +233,7 @@ void check(std::string_view text) {
     }
 }
 
-// What both widths of units have: searches, repair and UTF-8.
+// Checks the functions that are there for UTF-16 and for UTF-32: searches, repair and conversion to UTF-8.
 template <class View> void check_units(View text, const Items &items) {
     using String = std::basic_string<typename View::value_type>;
     check_faults(text, items);
@@ -280,8 +280,8 @@ std::string bytes_of(std::u16string_view text, widestring::Order order) {
     return bytes;
 }
 
-// Units as bytes, with or without half a unit after them, in one chunk and in two, the second of which starts with what
-// the first left.
+// Checks the functions for UTF-16 in bytes, with or without half a unit at the end, in one chunk and in two, the second
+// of which starts with the bytes that the first left.
 void check_bytes(std::u16string_view text) {
     const Items items = items_of(text);
     const auto order = below(2) == 0 ? widestring::Order::little : widestring::Order::big;
@@ -314,7 +314,7 @@ void check(std::u32string_view text) {
     must(widestring::utf16_length(text) == length_of(text_of<std::u16string>(items)), "utf16_length");
 }
 
-// A string of wchar_t is UTF-32.
+// Checks the functions for a string of wchar_t, which is UTF-32.
 void check(std::wstring_view text) {
     const Items items = items_of(text);
     check_units(text, items);
@@ -326,7 +326,7 @@ void check(std::wstring_view text) {
 const std::size_t lengths[] = {507,  508,  509,  510,  511,  512,   513,   4091,  4092,  4093,  4094,  4095,
                                4096, 4097, 5000, 20000, 65527, 65533, 65534, 65535, 65536, 65537, 70000};
 
-// Texts of several chunks whose rest differs from their beginning: with only faults, and with shorter characters.
+// Checks texts of several chunks whose rest differs from their beginning: with faults only, or with shorter characters.
 void check_longer() {
     for (const std::size_t length : lengths) {
         check(std::string(length, '\x80') + "a");
@@ -366,7 +366,7 @@ template <class String> String random_text() {
     return text;
 }
 
-// Texts of each type that a function takes, without a conversion by the caller.
+// Checks texts of each type that a function takes, without a conversion by the caller.
 void check_types() {
     const std::uint16_t units[] = {0x61, 0xd83d, 0xde00};
     const std::uint32_t wide[] = {0x61, 0x1f600};
@@ -401,8 +401,8 @@ static_assert(!HasView<const std::vector<std::uint16_t> &>::value && !HasView<co
 template <class Text> constexpr bool is_text = std::is_constructible_v<widestring::Utf16Units, Text> || std::is_constructible_v<widestring::Utf32Units, Text>;
 static_assert(!is_text<const std::vector<std::int16_t> &> && !is_text<const std::vector<float> &> && !is_text<std::string> && !is_text<int>);
 
-// What is written through a pointer to numbers between two calls must be read by the second, within the first chunk of
-// a text and where chunks meet.
+// Returns 100 times the first character that a second call reads, plus the one that a first call reads. Between the
+// calls the character is changed through a pointer to numbers, and the second call must read the change.
 template <class Text> std::uint32_t seen_twice(std::uint16_t *to, const Text &text) {
     to[0] = 7;
     const std::uint32_t first = widestring::to_utf32(text).value().front();
@@ -410,6 +410,8 @@ template <class Text> std::uint32_t seen_twice(std::uint16_t *to, const Text &te
     return 100 * widestring::to_utf32(text).value().front() + first;
 }
 
+// Returns whether calls read what was written through a pointer to numbers before them, within the first chunk of a
+// text and where chunks meet.
 template <class Text> bool is_read_anew(std::uint16_t *to, std::size_t length, const Text &text) {
     bool is_so = true;
     for (const std::size_t at : {0, 1, 510, 511, 512, 4094, 4095, 4096, 4198}) {

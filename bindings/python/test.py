@@ -14,13 +14,13 @@ import sys
 import widestring
 from widestring import Lossy, Order
 
-# What stands for a fault in a text of this test: a surrogate, which no well-formed text has.
+# The item of a fault in a text of this test: a surrogate, which no well-formed text has.
 FAULT = "\udfff"
 codecs.register_error("surrogate", lambda error: (FAULT, error.end))
 
 
 def items_of(data, name):
-    """The text of the bytes, with a surrogate for each fault."""
+    """Returns the text of the bytes, with a surrogate for each fault."""
     if name == "utf-8":
         return data.decode("utf-8", "surrogate")
     if name == "utf-16-le":
@@ -39,7 +39,7 @@ def equal(call, result, wanted):
 
 
 def check_strict(call, data, text, name, offset):
-    """A strict conversion: the text in another encoding, or the offset of the fault."""
+    """Checks that a strict conversion returns the text in another encoding, or reports the offset of the fault."""
     try:
         result, reported = call(data), None
     except widestring.Fault as fault:
@@ -79,7 +79,7 @@ def check_utf8(data):
 
 
 def offset_of(units, needle):
-    """The first offset of a needle in a list of units."""
+    """Returns the first offset of a needle in a list of units, or None."""
     spans = range(len(units) - len(needle) + 1)
     return next((at for at in spans if units[at : at + len(needle)] == needle), None)
 
@@ -110,8 +110,8 @@ def check_utf16(data):
 
 
 def check_bytes(units):
-    """Units in either byte order, with or without half a unit after them, in one chunk and in two, the second of
-    which starts with what the first left."""
+    """Checks the functions for UTF-16 in bytes of either order, with or without half a unit at the end, in one chunk
+    and in two, the second of which starts with the bytes that the first left."""
     items = items_of(units, "utf-16-le")
     order = random.choice(list(Order))
     whole = array.array("H", units)
@@ -163,7 +163,7 @@ def random_text():
 
 
 def random_data(name, width):
-    """The bytes of a text; in every second case with units put in at random offsets."""
+    """Returns the bytes of a text; in every second case with units put in at random offsets."""
     data = bytearray(random_text().encode(name))
     if random.random() < 0.5:
         for _ in range(random.randrange(8)):
@@ -174,7 +174,7 @@ def random_data(name, width):
 
 
 def must_raise(errors, call, *arguments):
-    """The error that the function raises, which is one of these and not a Fault."""
+    """Returns the error that the function raises, which must be one of `errors` and not a Fault."""
     try:
         result = call(*arguments)
     except errors as error:
@@ -184,7 +184,7 @@ def must_raise(errors, call, *arguments):
 
 
 def check_rejected_arguments():
-    """Arguments that are not a text, a policy, a number, or a needle."""
+    """Checks that arguments that are not a text, a policy, a number, or a needle are rejected."""
     must_raise(ValueError, widestring.utf16_to_utf8, b"abc")
     must_raise(ValueError, widestring.utf32_first_fault, array.array("B", b"abcde"))
     must_raise(ValueError, widestring.utf16_to_utf8_lossy, b"", 3)
@@ -232,7 +232,7 @@ class Zero:
 
 
 def check_lying_lengths():
-    """A buffer is as long as its memory is, whatever its object reports."""
+    """Checks that a buffer is as long as its memory is, whatever its object reports."""
     for length in (4096, 1 << 32, 0, 1):
         LongBytes.length = length
         for data in (LongBytes(b"ab"), LongArray(b"ab"), memoryview(LongBytes(b"ab"))):
@@ -248,7 +248,7 @@ def check_lying_lengths():
 
 
 def check_own_buffers():
-    """Objects that provide a buffer by a method, as they may since Python 3.12."""
+    """Checks objects that provide a buffer by a method, as they may since Python 3.12."""
 
     class Given(bytes):
         released = 0
@@ -277,7 +277,7 @@ def check_own_buffers():
 
 
 def views_of(units):
-    """Buffers that hold these units of UTF-16: of bytes, of units, with gaps, backwards and of two dimensions."""
+    """Yields buffers of the units of UTF-16: of bytes, of units, with gaps, backwards and of two dimensions."""
     count, raw = len(units) // 2 * 2, units.tobytes()
     spread = array.array("H", [0xD800] * (2 * len(units)))
     spread[::2] = units
@@ -290,7 +290,7 @@ def views_of(units):
 
 
 def check_buffers():
-    """Buffers that are text, also empty ones."""
+    """Checks buffers that are text, also empty ones."""
     for text in ("", "Hi\U0001f600!", "ab" * 300, "\ufffd" * 77):
         data = text.encode("utf-16-le")
         for view in views_of(array.array("H", data)):
@@ -311,7 +311,7 @@ def check_buffers():
 
 
 def check_other_elements():
-    """Buffers whose elements are not units of the required size must be rejected."""
+    """Checks that buffers whose elements are not units of the required size are rejected."""
     others = [array.array(code, [1, 2, 3, 4]) for code in "hilqQLfd"] + [(ctypes.c_uint16.__ctype_be__ * 2)(1, 2), (ctypes.c_bool * 4)()]
     others += [(ctypes.py_object * 2)("a", "b"), (ctypes.c_void_p * 2)(), memoryview(bytes(8)).cast("?"), (ctypes.c_int16 * 2)(1, 2)]
     for data in others:
@@ -341,8 +341,8 @@ def check_numpy():
 
 
 def check_memory():
-    """Results are objects of their own: nothing is written into one that CPython shares, and no length is truncated
-    to its low bits."""
+    """Checks that results are objects of their own, as nothing may be written into one that CPython shares, and that
+    no length is truncated to its low bits."""
     for result in (widestring.utf8_to_utf16(b""), widestring.utf16_to_utf8_lossy(b"\0\xd8", Lossy.SKIP), widestring.utf16_bytes_to_utf8(b"", Order.BIG)):
         equal("an empty text", result, b"")
     equal("the empty object", (b"", len(bytes())), (b"".join([]), 0))
@@ -358,14 +358,14 @@ def check_memory():
 
 
 def import_error(**environment):
-    """What a new process reports if it imports the module: the type of the error, and its text."""
+    """Returns what a new process reports if it imports the module: the type of the error, and its text."""
     script = "try:\n import widestring\nexcept Exception as error:\n print(type(error).__name__, error)"
     return subprocess.run([sys.executable, "-c", script], env={**os.environ, **environment}, check=True, capture_output=True, text=True).stdout
 
 
 def check_imports(libraries):
-    """A missing library, a file that is not one, and libraries of another version or with no version, which the
-    message names."""
+    """Checks that the import fails without a library, with a file that is not one, and with libraries of another
+    version or with no version, and that the message names the environment variable."""
     here = os.path.dirname(os.path.abspath(widestring.__file__))
     for library in ("/nonexistent/libwidestring.so", os.devnull, os.path.abspath(__file__), "libno_such_library.so", *libraries):
         printed = import_error(WIDESTRING_LIBRARY=library, PYTHONPATH=here)

@@ -21,7 +21,7 @@ impl Numbers {
         (self.0 >> 33) as u32 % bound
     }
 
-    /// A text as std has it: mostly ASCII, and characters below a bound.
+    /// Returns a random text of std: mostly ASCII, and characters below a bound.
     fn text(&mut self) -> String {
         let bound = [0x80, 0x800, 0x1_0000, 0x11_0000][self.below(4) as usize];
         let most = [
@@ -43,7 +43,7 @@ impl Numbers {
             .collect()
     }
 
-    /// In every second case replaces some elements by others of any value; cuts some texts at a random offset.
+    /// Inserts some elements of any value in every second case, and truncates some texts at a random offset.
     fn broken<T: Copy>(&mut self, mut items: Vec<T>, any: impl Fn(u32) -> T) -> Vec<T> {
         for _ in 0..if self.below(2) == 0 { 0 } else { self.below(8) } {
             let wild = match self.below(3) {
@@ -81,7 +81,7 @@ fn lossy_of(items: &Items, policy: Lossy) -> String {
     text
 }
 
-/// Returns the text if it has no fault.
+/// Returns what `make` makes of the text of the items, or the fault at the offset if there is one.
 fn valid<T>(items: &Items, offset: Option<usize>, make: impl Fn(&str) -> T) -> Result<T, Fault> {
     match offset {
         None => Ok(make(&lossy_of(items, Lossy::Skip))),
@@ -89,8 +89,9 @@ fn valid<T>(items: &Items, offset: Option<usize>, make: impl Fn(&str) -> T) -> R
     }
 }
 
-/// Calls a function with buffers that fit exactly, are longer, shorter and empty, with a filler after each. It
-/// must return the length if the text fits, an error with the length if it does not, and a fault with each of them.
+/// Calls a function with buffers that fit exactly, are longer, shorter and empty, with a filler after each. The
+/// function must return the length if the text fits, and an error with the length if it does not; if `wanted` is a
+/// fault, it must return the fault with each buffer.
 fn fills<T: Copy + PartialEq + Debug>(
     wanted: Result<&[T], Fault>,
     filler: T,
@@ -125,7 +126,7 @@ fn utf32_of(text: &str) -> Vec<u32> {
     text.chars().map(u32::from).collect()
 }
 
-/// The items of bytes, and the offset of the first fault.
+/// Returns the items of UTF-8, and the offset of the first fault.
 fn utf8_items(text: &[u8]) -> (Items, Option<usize>) {
     let mut items = Items::new();
     for chunk in text.utf8_chunks() {
@@ -180,7 +181,7 @@ fn check_utf8_lossy(text: &[u8], policy: Lossy, lossy: &str) {
     });
 }
 
-/// The first offset of a needle, by std's windows.
+/// Returns the first offset of a needle, by std's windows.
 fn offset_of<T: PartialEq>(items: &[T], needle: &[T]) -> Option<usize> {
     match needle.len() {
         0 => Some(0),
@@ -226,8 +227,8 @@ fn check_utf16(units: &[u16], numbers: &mut Numbers) {
     check_bytes(units, &items, numbers);
 }
 
-/// Units as bytes, with or without half a unit after them, in one chunk and in two, the second of which starts with
-/// what the first left.
+/// Checks the functions for UTF-16 in bytes, with or without half a unit at the end, in one chunk and in two, the
+/// second of which starts with the bytes that the first left.
 fn check_bytes(units: &[u16], items: &Items, numbers: &mut Numbers) {
     let order = [Order::Little, Order::Big][numbers.below(2) as usize];
     let put = |unit: &u16| match order {
@@ -331,8 +332,8 @@ fn version_is_the_crates() {
     assert_eq!(version(), number);
 }
 
-/// What a function that writes into a buffer returns can be used to slice the buffer: if the text is longer, it is an
-/// error with the length.
+/// Tests that a function that writes into a buffer returns an error with the length if the text is longer than the
+/// buffer. So a length that it returns can be used to slice the buffer.
 #[test]
 fn short_buffers() {
     let short = Short { needed: 6 };
