@@ -4,7 +4,7 @@ ghost use Rattle.std.specs.Char.{to_ascii_lowercase, to_ascii_uppercase};
 
 use wide_unit::Unit;
 
-// The units that are tested before a test for the end: a loop over them without exits is vectorized.
+// How many units are tested before a test for the end: a loop over them without exits is vectorized.
 const BLOCK: usize = 64;
 
 // Returns whether all units are ASCII. It reads all of them.

@@ -8,7 +8,7 @@ use std::alloc::Global;
 use wide_edit::{Edit, Reply, Stopped};
 use wide_error::OutOfMemory;
 
-// Makes one edit and appends its reply. If an allocation fails, it changes neither.
+// Makes one edit and appends its reply. If an allocation fails, neither the text nor the list of replies changes.
 fn make<T: TextEdit>(
     alloc: Global,
     text: &mut T,
@@ -78,7 +78,8 @@ pub fn run<T: TextEdit>(
     ran
 }
 
-// Makes one edit of both texts and appends both replies. If an allocation fails, it changes none of the four.
+// Makes one edit of both texts and appends both replies. If an allocation fails, neither text changes, and no reply is
+// appended.
 fn make_both<T: TextEdit, U: TextEdit>(
     alloc: Global,
     first: &mut T,

@@ -42,8 +42,8 @@ fn len_before(text: Utf16Str<'_>, _index: usize, at: usize) -> usize
     2
 }
 
-/// Returns the offset of the character at index `to`, from the offset `start` of that at index `from`. It reads the
-/// units between both offsets, and counts them.
+/// Returns the offset of the character at index `to`, from the offset `start` of the character at index `from`. It
+/// reads the units between both offsets, and counts them.
 ///
 /// # Requires
 ///
@@ -66,7 +66,8 @@ pub fn pass_on(text: Utf16Str<'_>, from: usize, start: usize, to: usize, steps: 
     at
 }
 
-// Returns the offset of the character at index `to`, from the offset `start` of that at index `from`, a later one.
+// Returns the offset of the character at index `to`, from the offset `start` of a later character, the one at index
+// `from`.
 pub(crate) fn pass_back(
     text: Utf16Str<'_>,
     from: usize,
@@ -91,8 +92,8 @@ pub(crate) fn pass_back(
     at
 }
 
-// Returns the offset of the character at index `to`, given index and offset of an earlier one and of a later one. It
-// reads from the nearer of these two. If the characters between them have one unit each, it reads none.
+// Returns the offset of the character at index `to`, given the index and the offset of an earlier character and of a
+// later one. It reads from the nearer of these two. If the characters between them have one unit each, it reads none.
 pub(crate) fn between(
     text: Utf16Str<'_>,
     low: (usize, usize),

@@ -55,7 +55,10 @@ pub trait UtfStrReplace<C: FaultUnit, P>: SplitView<P> {
     ) -> Result<UtfString<C, A>, OutOfMemory>
         ensures units { IfOk result (λ s. map C.number s.units ≡ joined_with (Self.numbers_seen with) (substrings (Self.needle_numbers needle) (Self.numbers_seen self))) };
 
-    /// Replaces the first `count` occurrences of the needle, in a new string, like [`UtfStrReplace::replace`].
+    /// Replaces the first `count` occurrences of the needle, in a new string. Each occurrence is the first one after
+    /// the one before, so occurrences do not overlap. If `count` is 0, or the needle does not occur or is empty, the
+    /// string is a copy. It searches twice, the first time for the length of the result, and allocates once, for just
+    /// that length, or not at all if the result is empty.
     ///
     /// # Errors
     ///

@@ -10,7 +10,7 @@ use crate::search::find_in;
 use crate::search_back::rfind_in;
 use wide_unit::{Unit, same_units};
 
-/// Returns whether the units begin with those of the needle. They do if it is empty.
+/// Returns whether the units begin with those of the needle. They do if the needle is empty.
 pub fn starts_with<C: Unit>(units: &[C], needle: &[C]) -> bool
     ensures { IsTrue result ↔ BeginsWith needle.now units.now }
 {
@@ -21,7 +21,7 @@ pub fn starts_with<C: Unit>(units: &[C], needle: &[C]) -> bool
     same_units(prefix, needle)
 }
 
-/// Returns whether the units end with those of the needle. They do if it is empty.
+/// Returns whether the units end with those of the needle. They do if the needle is empty.
 pub fn ends_with<C: Unit>(units: &[C], needle: &[C]) -> bool
     ensures { IsTrue result ↔ EndsWith needle.now units.now }
 {

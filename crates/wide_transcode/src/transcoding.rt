@@ -114,10 +114,15 @@ pub fn transcode<S: ByteSource, K: ByteSink>(
     }
 }
 
-/// Transcodes like [`transcode`] in [`Mode::Lossy`], but writes what the policy yields for faults. All the text is
-/// written, and no fault is an error.
+/// Reads UTF-16 bytes from the source to its end, and writes their lossy text under the policy as UTF-8 into the sink
+/// (Unicode Standard, D91, D92 and D98). All the text is written, and no fault is an error. A run of faults counts as
+/// one run, even if it spans chunks or calls of the source.
 ///
-/// A run of faults counts as one run, even if it spans chunks or calls of the source.
+/// A BOM at the beginning gives the byte order and is dropped; without one the order is little-endian. If the number of
+/// bytes is even, one zero unit at the end is dropped. The source is read in chunks of at most 4,096 bytes, and nothing
+/// is allocated. The text of a chunk is written before the next chunk is read, except for a high surrogate that a low
+/// one may still follow, and for a zero unit that may be the last: these wait for the next chunk. A read or write that
+/// failed is not repeated, and the sink is not flushed.
 ///
 /// # Requires
 ///

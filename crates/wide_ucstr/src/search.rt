@@ -27,7 +27,7 @@ impl<'a, C: FaultUnit> UCStr<'a, C> {
         self.as_ustr().ends_with(needle.as_ustr())
     }
 
-    /// Returns whether the needle, without its NUL, occurs anywhere in the contents, as [`UCStr::find`] finds it.
+    /// Returns whether the needle, without its NUL, occurs anywhere in the contents. An empty needle does.
     pub fn contains(self, needle: UCStr<'_, C>) -> bool
         ensures { IsTrue result ↔ OccursIn (contents_seen needle.entry) (contents_seen self.entry) }
     {

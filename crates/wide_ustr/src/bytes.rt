@@ -159,8 +159,8 @@ impl<C: Unit> UStr<'_, C> {
     }
 
     /// Writes a BOM and the bytes of the units, little-endian (Unicode Standard, D98 and D101), at the start of
-    /// `bytes`, and returns how many bytes there are. The BOM is that of [`UStr::to_le_bytes_with_bom`]. The bytes
-    /// after them are unchanged. The Rust crate has no such call.
+    /// `bytes`, and returns how many bytes there are. The BOM is `FF FE` for 16-bit units, and `FF FE 00 00` for 32-bit
+    /// units. The bytes after them are unchanged. The Rust crate has no such call.
     ///
     /// # Requires
     ///
@@ -180,8 +180,8 @@ impl<C: Unit> UStr<'_, C> {
     }
 
     /// Writes a BOM and the bytes of the units, big-endian (Unicode Standard, D98 and D101), at the start of `bytes`,
-    /// and returns how many bytes there are. The BOM is that of [`UStr::to_be_bytes_with_bom`]. The bytes after them
-    /// are unchanged. The Rust crate has no such call.
+    /// and returns how many bytes there are. The BOM is `FE FF` for 16-bit units, and `00 00 FE FF` for 32-bit units.
+    /// The bytes after them are unchanged. The Rust crate has no such call.
     ///
     /// # Requires
     ///

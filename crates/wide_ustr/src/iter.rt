@@ -34,7 +34,9 @@ fn unit_hint<C: Unit>(units: &[C]) -> (usize, Option<usize>)
 /// An iterator over the characters of a view, which yields an error for each unit that belongs to none. Made by
 /// [`UStr::chars`](crate::UStr::chars).
 ///
-/// `{:?}` prints the units that were not read yet, as `{:?}` of a view prints them.
+/// `{:?}` prints the units that were not read yet between quotes, as [`char::escape_debug`] escapes them. A unit that
+/// belongs to no character is printed as `\<H>`, where `H` is its number in upper-case hexadecimal, without leading
+/// zeros.
 ///
 /// # Example
 ///

@@ -93,8 +93,9 @@ impl<C: FaultUnit> UStr<'_, C> {
     ghost use Rattle.wide_ustr.specs.LineIndices.{placed_left};
     ghost use Rattle.wide_ustr.specs.View.{units_seen};
 
-    /// Returns an iterator over the lines, as [`UStr::lines_lossy`] splits them, each with the offset, in units, at
-    /// which it begins in the view. The Rust crate has no such call.
+    /// Returns an iterator over the lines, each with the offset, in units, at which it begins in the view. The lines
+    /// are those of [`UStr::lines_lossy`]: a line feed (U+000A) ends a line, together with one carriage return (U+000D)
+    /// before it, and neither is in the line. The Rust crate has no such call.
     ///
     /// # Example
     ///

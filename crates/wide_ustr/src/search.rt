@@ -22,7 +22,7 @@ impl<C: Unit> UStr<'_, C> {
         wide_search::ends_with(self.as_slice(), needle.as_slice())
     }
 
-    /// Returns whether the needle occurs anywhere in the view, as [`UStr::find`] finds it.
+    /// Returns whether the needle occurs anywhere in the view. An empty needle does.
     pub fn contains(self, needle: UStr<'_, C>) -> bool
         ensures { IsTrue result ↔ OccursIn (units_seen needle.entry) (units_seen self.entry) }
     {

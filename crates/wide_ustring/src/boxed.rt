@@ -75,8 +75,8 @@ impl<C: FaultUnit, A: Allocator> BoxedUStr<C, A> {
 }
 
 impl<C: FaultUnit, A: Allocator> UString<C, A> {
-    /// Returns the units in an allocation of exactly their length. It shrinks the string's allocation as
-    /// [`UString::shrink_to_fit`] does; it does not ask for memory if the string has no spare capacity.
+    /// Returns the units in an allocation of exactly their length. It shrinks the string's allocation; it does not ask
+    /// for memory if the string has no spare capacity.
     ///
     /// # Errors
     ///

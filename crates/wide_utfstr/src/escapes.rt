@@ -430,9 +430,10 @@ impl<'a, C: Unit> UtfStr<'a, C> {
         }
     }
 
-    /// Returns an iterator over the escaped characters, as [`char::escape_debug`] returns them. It escapes ASCII like
-    /// [`UtfStr::escape_default`], except that NUL becomes `\0`. It does not escape printable characters beyond ASCII.
-    /// The contract specifies the text only if all characters are ASCII.
+    /// Returns an iterator over the escaped characters, as [`char::escape_debug`] returns them. Tab, carriage return,
+    /// line feed and NUL become `\t`, `\r`, `\n` and `\0`. Quotes of both kinds and the backslash get a backslash
+    /// before them. Other characters from U+0020 to U+007E are not escaped, nor are printable characters past ASCII.
+    /// All others become `\u{..}`. The contract specifies the text only if all characters are ASCII.
     pub fn escape_debug(self) -> EscapeDebug<'a, C>
         ensures left { debug_left result ≡ flat_map escape_debug (text_seen self.entry) }
         ensures ascii { list_all is_ascii (text_seen self.entry) ≡ true → HasAsciiLeft result }

@@ -56,8 +56,9 @@ impl<C: Unit> UtfStr<'_, C> {
         Lines::new(self)
     }
 
-    /// Returns an iterator over the lines, as [`UtfStr::lines`] splits them, each with the offset, in units, at which
-    /// it begins in the text.
+    /// Returns an iterator over the lines, each with the offset, in units, at which it begins in the text. The lines
+    /// are those of [`UtfStr::lines`]: a line feed (U+000A) ends a line, together with one carriage return (U+000D)
+    /// before it, and neither is in the line.
     ///
     /// # Example
     ///

@@ -36,7 +36,7 @@ impl<C: Unit> UtfStr<'_, C> {
         wide_search::ends_with(self.as_slice(), needle.as_slice())
     }
 
-    /// Returns whether the needle occurs anywhere in the view, as [`UtfStr::find`] finds it.
+    /// Returns whether the needle occurs anywhere in the view. An empty needle does.
     pub fn contains(self, needle: UtfStr<'_, C>) -> bool
         ensures { IsTrue result ↔ OccursIn (units_seen needle.entry) (units_seen self.entry) }
     {

@@ -179,8 +179,8 @@ impl<'a, C: Unit> UtfStr<'a, C> {
     /// after its end, ends past the end of the view, or has a bound past `usize::MAX`, or if one of its ends is no
     /// character boundary. [`range_check`] checks the range.
     ///
-    /// For an inclusive range that was iterated to its end the contract does not say whether the result is a part or
-    /// `None`, nor which part.
+    /// For an inclusive range that was iterated to its end the contract does not say whether the result is a view or
+    /// `None`, nor of which units.
     ///
     /// # Example
     ///
@@ -385,7 +385,8 @@ impl<'a, C: FaultUnit> UtfStr<'a, C> {
         }
     }
 
-    /// Makes a well-formed view of the units of a view, if they are well formed, like [`UtfStr::from_slice`].
+    /// Makes a well-formed view of the units of a view, if they are well formed. The check is vectorized and reads the
+    /// units once. If there is a fault, it reads the units before it again to count their characters.
     ///
     /// # Errors
     ///
@@ -414,8 +415,8 @@ impl<'a, C: FaultUnit> UtfStr<'a, C> {
         Self::from_slice_unchecked(view.as_slice())
     }
 
-    /// Makes a view of the contents of a C string, without its NUL, if they are well formed, like
-    /// [`UtfStr::from_slice`].
+    /// Makes a view of the contents of a C string, without its NUL, if they are well formed. The check is vectorized
+    /// and reads the units once. If there is a fault, it reads the units before it again to count their characters.
     ///
     /// # Errors
     ///

@@ -34,7 +34,7 @@ use wide_utfstr::{UtfStr, check};
 /// ill-formed units in the string.
 ///
 /// Offsets and lengths are counted in units. A call that returns [`OutOfMemory`] leaves the string unchanged, except
-/// the `extend_*` calls, which keep the items before the one that did not fit.
+/// the `extend_*` calls: after these it has the items before the one whose allocation failed.
 ///
 /// `{}` prints the characters. `{:?}` prints them between quotes, as [`char::escape_debug`] escapes them.
 ///
@@ -135,7 +135,8 @@ impl<C: FaultUnit, A: Allocator> UtfString<C, A> {
     }
 
     /// Checks that the units of a string are well formed, and makes a `UtfString` of them without copying or
-    /// allocating, like [`UtfString::from_vec`].
+    /// allocating. The check is vectorized and reads the units once. If there is a fault, it reads the units before it
+    /// again to count their characters.
     ///
     /// # Errors
     ///
@@ -152,7 +153,8 @@ impl<C: FaultUnit, A: Allocator> UtfString<C, A> {
     }
 
     /// Checks that the contents of a C string, without its NUL, are well formed, and makes a `UtfString` of them
-    /// without copying or allocating, like [`UtfString::from_vec`].
+    /// without copying or allocating. The check is vectorized and reads the units once. If there is a fault, it reads
+    /// the units before it again to count their characters.
     ///
     /// # Errors
     ///
@@ -385,7 +387,7 @@ impl<C: FaultUnit, A: Allocator> UtfString<C, A> {
     }
 
     /// Appends a character, like [`UtfString::push`]. It corresponds to `fmt::Write::write_char` in the Rust crate, but
-    /// its error says that memory ran out.
+    /// returns [`OutOfMemory`] in place of `fmt::Error`.
     ///
     /// # Errors
     ///
@@ -424,7 +426,7 @@ impl<C: FaultUnit, A: Allocator> UtfString<C, A> {
     }
 
     /// Appends the characters of a `&str`, like [`UtfString::push_str`]. It corresponds to `fmt::Write::write_str` in
-    /// the Rust crate, but its error says that memory ran out.
+    /// the Rust crate, but returns [`OutOfMemory`] in place of `fmt::Error`.
     ///
     /// # Errors
     ///
@@ -686,8 +688,7 @@ impl<C: FaultUnit, A: Allocator> UtfString<C, A> {
         self.string.retain_chars(keep);
     }
 
-    /// Reduces the capacity, but to no less than the length and no less than `least` units, like
-    /// [`UString::shrink_to`].
+    /// Reduces the capacity, but to no less than the length and no less than `least` units.
     ///
     /// # Errors
     ///

@@ -33,8 +33,8 @@ static LENGTHS: [(usize, usize, usize, usize); 3] = [
     (255, 258, 250, 258),
 ];
 
-// What is put at an offset, cut off at the end of the text: a character of each length in UTF-8, and faults. Half a
-// pair is also a fault.
+// What is put at an offset of UTF-16, cut off at the end of the text: a character of each length in UTF-8, and faults.
+// Half a pair is also a fault.
 pub(crate) static KINDS16: [&[u16]; 8] = [
     &[0x7a],
     &[0xdf],
@@ -46,6 +46,8 @@ pub(crate) static KINDS16: [&[u16]; 8] = [
     &[0xde00, 0xd83d, 0xd83d],
 ];
 
+// What is put at an offset of UTF-32, cut off at the end of the text: a character of each length in UTF-8, surrogates,
+// and numbers above 10FFFF.
 static KINDS32: [&[u32]; 8] = [
     &[0x7a],
     &[0xdf],
@@ -57,7 +59,8 @@ static KINDS32: [&[u32]; 8] = [
     &[0xd83d, 0xde00, 0xffff_ffff],
 ];
 
-// Characters of each length, ill-formed sequences of one to three bytes, a surrogate, and a value above U+10FFFF.
+// What is put at an offset of UTF-8, cut off at the end of the text: characters of each length, ill-formed sequences of
+// one to three bytes, a surrogate, and a value above U+10FFFF.
 static KINDS8: [&[u8]; 12] = [
     &[0x7a],
     &[0xc3, 0x9f],
@@ -404,7 +407,8 @@ impl Targets {
     }
 }
 
-// A text: characters, `None` for each fault, between this many letters before and after them; and the calls to make.
+// A text, and the calls to make of it. The text is `before` letters, the items, each a character or `None` for a fault,
+// and `after` letters.
 #[derive(Clone, Copy)]
 pub(crate) struct Case<'a> {
     pub(crate) before: usize,
@@ -418,7 +422,7 @@ impl<'a> Case<'a> {
         !self.items.contains(&None)
     }
 
-    // Returns whether these are the calls of the policy that writes U+FFFD for each fault.
+    // Returns whether the calls are those of the policy that writes U+FFFD for each fault.
     fn is_each(&self) -> bool {
         self.ways.len() > 1
     }

@@ -16,19 +16,21 @@ use wide_from_units::is_after_fault;
 use wide_from_utf8::from_utf8_prefix;
 use wide_unit::Unit;
 
-// The size of the array, in units, that the units of a short input are copied from. A small array takes less time to
-// clear.
+// The size of the array, in units, that the units of an input of at most as many bytes are copied from. A small array
+// takes less time to clear.
 const FEW: usize = 32;
 
-// The size of the array, in units, that the units of a longer input are copied from: 48 steps of at most sixteen.
+// The size of the array, in units, that the units of an input of more than `FEW` bytes are copied from: 48 steps of at
+// most sixteen.
 const MANY: usize = 48 * 16;
 
 // Units are decoded directly into the buffer while the rest of the text yields at least this many units.
 const WINDOW: usize = 256;
 
-// Decodes text to the offset `at` of the buffer, chunk by chunk, and returns the offset after it, as `put_items` does.
-// Decoding may overwrite units after those that it reports. So it writes directly to the buffer only where the rest of
-// the text will overwrite them: four bytes yield at least one unit.
+// Decodes text to the offset `at` of the buffer, chunk by chunk, and returns the offset after it, whether it fits or
+// not, or `usize::MAX` if the offset is greater than that. Decoding may overwrite units after those that it reports. So
+// it writes directly to the buffer only where the rest of the text will overwrite them: four bytes yield at least one
+// unit.
 fn put_text<C: Unit>(text: &[u8], units: &mut [C], at: usize, chunk: &mut [C]) -> usize
     requires text { IsUtf8 text.now }
     requires space { length units.old < 2 ^ 64 - 1 }

@@ -16,7 +16,7 @@ use wide_unit::{Unit, find_fault};
 use wide_utf16_to_utf8::checked_utf16_to_utf8;
 
 // Converts well-formed units to UTF-8 at the offset `at` of the buffer, chunk by chunk, and returns the offset after
-// the result, as `put_items` does.
+// the result, whether it fits or not, or `usize::MAX` if the offset is greater than that.
 fn put_chunks<C: Unit>(units: &[C], text: &mut [u8], at: usize, chunk: &mut [u8]) -> usize
     requires well_formed { IsWellFormed C.form (map C.number units.now) }
     requires chunk { 64 ≤ length chunk.old }
@@ -82,9 +82,9 @@ fn put_valid_16(units: &[u16], text: &mut [u8]) -> Option<usize>
     put_in_two_passes(units, text)
 }
 
-// Converts any units to UTF-8 at the offset `at` of the buffer, replaces faults by the policy, and returns the offset
-// after the result, as `put_items` does. `after_fault` says whether the unit before these is ill-formed. `spare` and
-// `chunk` are scratch arrays.
+// Converts any units to UTF-8 at the offset `at` of the buffer, and replaces faults by the policy. Returns the offset
+// after the result, whether it fits or not, or `usize::MAX` if the offset is greater than that. `after_fault` says
+// whether the unit before `units` is ill-formed. `spare` and `chunk` are scratch arrays.
 pub(crate) fn put_lossy_after<C: Unit>(
     units: &[C],
     policy: Policy,

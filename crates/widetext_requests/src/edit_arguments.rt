@@ -64,7 +64,7 @@ fn number_and_rest(values: &str) -> Option<(usize, &str)>
     Some((parse_number(digits)?, rest))
 }
 
-// Parses the values of an edit with this name whose first value is an offset and is followed by others.
+// Parses the values of an edit, given the edit's name, if the first value is an offset that other values follow.
 fn parse_edit_at<'a>(name: &str, values: &'a str) -> Option<Edit<'a>>
     ensures reads { IfSome result (IsNamed name.now values.now) }
     ensures complete { (found : Edit) → HasTypes found → IsNamedAt name.now values.now found → IsSome result }
@@ -82,7 +82,7 @@ fn parse_edit_at<'a>(name: &str, values: &'a str) -> Option<Edit<'a>>
     }
 }
 
-// Parses the values of an edit with this name, except `retain`.
+// Parses the values of an edit, given the edit's name, which may be any but `retain`.
 fn parse_edit<'a>(name: &str, values: &'a str) -> Option<Edit<'a>>
     ensures reads { IfSome result (IsNamed name.now values.now) }
     ensures complete { (found : Edit) → HasTypes found → name.now ≢ codes "retain" → IsNamed name.now values.now found → IsSome result }

@@ -28,7 +28,7 @@ fn push_answer(
     }
 }
 
-// Appends a line for each of these items.
+// Appends a line for each item of a decoder.
 fn push_answers(
     lines: &mut String,
     answers: &[Option<Result<char, DecodeUtf16Error>>],
