@@ -11,7 +11,7 @@ use Rattle.std.proofs.lemmas.Str.{IsUtf8-append, IsUtf8-encode, IsUtf8-from_is_u
 use Rattle.wide_forms.specs.Utf8.{utf8_bytes}
 use Rattle.wide_forms.specs.Laws.Utf8.{utf8_bytes-encode_utf8}
 
--- The longest prefix that is UTF-8.
+-- The first `valid_len_up_to bs n` bytes are UTF-8.
 up_to-prefix : (bs : List ℕ) (n : ℕ) → IsUtf8 (take (valid_len_up_to bs n) bs)
 up_to-prefix bs zero = IsUtf8-nil
 up_to-prefix bs (suc n) = elim (cases_Bool (is_utf8 (take (suc n) bs))) [
@@ -19,6 +19,7 @@ up_to-prefix bs (suc n) = elim (cases_Bool (is_utf8 (take (suc n) bs))) [
   | inr other ↦ rw other (up_to-prefix bs n)
 ]
 
+-- A prefix of at most `n` bytes that is UTF-8 has at most `valid_len_up_to bs n` bytes.
 up_to-longest : (bs : List ℕ) (n m : ℕ) → m ≤ n → IsUtf8 (take m bs) → m ≤ valid_len_up_to bs n
 up_to-longest bs zero m within text = within
 up_to-longest bs (suc n) m within text = elim (cases_Bool (is_utf8 (take (suc n) bs))) [
@@ -29,10 +30,12 @@ up_to-longest bs (suc n) m within text = elim (cases_Bool (is_utf8 (take (suc n)
   ])
 ]
 
+-- The first `utf8_valid_len bs` bytes are UTF-8.
 pub valid_len-prefix : (bs : List ℕ) → IsUtf8 (take (utf8_valid_len bs) bs)
 unfolding utf8_valid_len
 valid_len-prefix bs = up_to-prefix bs (length bs)
 
+-- A prefix that is UTF-8 has at most `utf8_valid_len bs` bytes.
 pub valid_len-longest : (bs : List ℕ) (n : ℕ) → n ≤ length bs → IsUtf8 (take n bs) → n ≤ utf8_valid_len bs
 unfolding utf8_valid_len
 valid_len-longest bs n within text = up_to-longest bs (length bs) n within text
@@ -51,6 +54,7 @@ pub data First : List ℕ → Type 0 where
   char : (c : ℕ) (rest : List ℕ) → IsScalar c → First (utf8_bytes c ++ rest)
   no_char : (bs : List ℕ) → 0 < length bs → StartsWithNoChar bs → First bs
 
+-- The bytes after a character are fewer than all bytes.
 pub shorter-char : (c : ℕ) (rest : List ℕ) → length rest < length (utf8_bytes c ++ rest)
 shorter-char c rest = omega (arith, length-append (utf8_bytes c) rest, ap length (utf8_bytes-encode_utf8 c), length-encode c, (len_utf8_bounds c).0)
 
@@ -59,6 +63,7 @@ pub part-some : (bs : List ℕ) → 0 < length bs → 0 < utf8_invalid_len bs
 unfolding utf8_error_len
 part-some bs some = grind (arith, nat_tests)
 
+-- The bytes after a fault are fewer than all bytes.
 pub shorter-part : (bs : List ℕ) → 0 < length bs → length (drop (utf8_invalid_len bs) bs) < length bs
 shorter-part bs some = omega (arith, some, part-some bs some, length-drop (utf8_invalid_len bs) bs)
 
@@ -75,6 +80,7 @@ first-char bs some = by (valid_len-prefix bs).0 (valid_len-prefix bs).1.0 (valid
         in
         subst (λ xs. First xs) whole (char c rest (and_parts _ _ scalars).0)
 
+-- Bytes are empty, or begin with a character or a fault.
 pub first : (bs : List ℕ) → First bs
 first [] = nothing
 first (b ∷ bs) = elim (cases_lt 0 (utf8_valid_len (b ∷ bs))) [
@@ -82,12 +88,14 @@ first (b ∷ bs) = elim (cases_lt 0 (utf8_valid_len (b ∷ bs))) [
   | inr none ↦ no_char (b ∷ bs) (omega arith) (no_char-beyond (b ∷ bs) 0 IsUtf8-nil (λ m more within text. omega (arith, none, more, valid_len-longest (b ∷ bs) m within text)))
 ]
 
--- Bounds on lengths.
+-- A number below one that is at most `steps` is below `steps`.
 pub below_more : (m n steps : ℕ) → m < n → n < suc steps → m < steps
 below_more m n steps less within = omega arith
 
+-- A number is below the next one.
 pub below_next : (n : ℕ) → n < suc n
 below_next n = omega arith
 
+-- No number is below 0.
 pub below_none : (n : ℕ) → ¬ (n < 0)
 below_none n less = omega arith

@@ -14,20 +14,23 @@ use Rattle.wide_forms.specs.Laws.Items.{IsCut, items-append, items-chain, units_
 pub IsBoundary-of_cut : (form : EncodingForm) (a b : List ℕ) → IsCut form a b → IsBoundary form (a ++ b) (length a)
 IsBoundary-of_cut form a b cut = (items form a, items form b, items-append form a b cut, ap length (units_of-items form a))
 
+-- The units of concatenated lists of items are the concatenated units.
 pub units_of-append : (form : EncodingForm) (is js : List Item) → units_of form (is ++ js) ≡ units_of form is ++ units_of form js
 units_of-append form is js = flat_map-append (item_units form) is js
 
--- In well-formed units an offset before the end is a boundary exactly if the unit at it is no low surrogate.
+-- No pair is split at an offset whose unit is no low surrogate.
 IsCut-at : (form : EncodingForm) (us : List ℕ) (offset : ℕ) → (IsLowSurrogate form (get_or us offset 0) → ⊥) → IsCut form (take offset us) (drop offset us)
 IsCut-at form us offset none prefix back h l e f pair =
     let at : get_or us offset 0 ≡ l = ap (λ n. get_or us n 0) {x = offset} {y = offset + 0} (omega arith) ∙ sym (get_or-drop offset us 0 0) ∙ ap (λ xs. get_or xs 0 0) f in
     none (rw at (IsPair-parts form h l pair).1)
 
+-- An offset whose unit is no low surrogate is a boundary, and so is the end.
 pub IsBoundary-at : (form : EncodingForm) (us : List ℕ) (offset : ℕ) → offset ≤ length us → (IsLowSurrogate form (get_or us offset 0) → ⊥) → IsBoundary form us offset
 IsBoundary-at form us offset within none =
     let b = IsBoundary-of_cut form (take offset us) (drop offset us) (IsCut-at form us offset none) in
     (b.0, b.1, ap (λ xs. items form xs) (sym (take-append-drop offset us)) ∙ b.2, b.3 ∙ length-take-le offset us within)
 
+-- The end is a boundary.
 pub IsBoundary-end : (form : EncodingForm) (us : List ℕ) → IsBoundary form us (length us)
 IsBoundary-end form us = (items form us, [], sym (append-nil (items form us)), ap length (units_of-items form us))
 

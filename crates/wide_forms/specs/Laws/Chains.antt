@@ -20,10 +20,11 @@ abbrev pub Chain : EncodingForm → List Item → Type 0
 Chain form [] = Unit {0}
 Chain form (i ∷ items) = IsItem form i × MayPrecede form i items × Chain form items
 
--- A segmentation is a chain, and a chain is a segmentation of its units.
+-- Each item is a character or a fault.
 abbrev Proper : EncodingForm → List Item → Type 0
 Proper form items = All (IsItem form) items
 
+-- No two adjacent faults are a pair.
 abbrev Unpaired : EncodingForm → List Item → Type 0
 Unpaired form items = (prefix back : List Item) (h l : ℕ) → items ≡ prefix ++ Fault h ∷ Fault l ∷ back → ¬ (IsPair form h l)
 
@@ -55,9 +56,11 @@ unpaired-from form (i ∷ items) [] back h l chain e =
     let at : MayPrecede form (Fault h) (Fault l ∷ back) = rw (head, rest) at chain.1 in
     at
 
+-- The items of a segmentation are a chain.
 pub chain_of : (form : EncodingForm) (items : List Item) (units : List ℕ) → IsSegmentation form items units → Chain form items
 chain_of form items units seg = chain-from form items seg.proper seg.unpaired
 
+-- A chain is a segmentation of its units.
 pub IsSegmentation-of_chain : (form : EncodingForm) (items : List Item) (units : List ℕ) → Chain form items → units_of form items ≡ units → IsSegmentation form items units
 IsSegmentation-of_chain form items units chain joined = record { joined = joined; proper = proper-from form items chain; unpaired = λ prefix back h l e. unpaired-from form items prefix back h l chain e }
 
@@ -90,6 +93,7 @@ char-or_fault form c u items xs hc hu may chain e = elim (code_units-cases form 
       second-begins_nothing form u two.1 items xs (c, hc, two.2 ∙ ap (λ x. x ∷ two.1 ∷ []) same) may chain rest)
 ]
 
+-- Chains of the same units are equal.
 pub chain-unique : (form : EncodingForm) (is js : List Item) → Chain form is → Chain form js → units_of form is ≡ units_of form js → is ≡ js
 chain-unique form [] [] ci cj e = refl
 chain-unique form [] (j ∷ js) ci cj e = absurd (nonempty form j (units_of form js) (sym e))
@@ -107,7 +111,7 @@ chain-unique form (Fault u ∷ is) (Fault v ∷ js) ci cj e =
     let rest = chain-unique form is js ci.2 cj.2 f in
     cc
 
--- Each list of units has a chain, built from the end.
+-- The units have a chain.
 abbrev ChainFor : EncodingForm → List ℕ → Type 0
 ChainFor form units = (items : List Item) × Chain form items × (units_of form items ≡ units)
 
@@ -119,6 +123,7 @@ with_fault form u units hu (Fault l ∷ items) chain e = elim (pair-cases form u
   | inr apart ↦ (Fault u ∷ Fault l ∷ items, (hu, apart, chain), ap (λ xs. u ∷ xs) e)
 ]
 
+-- Each list of units has a chain, built from the end.
 pub chain_for : (form : EncodingForm) (units : List ℕ) → ChainFor form units
 chain_for form [] = ([], tt, refl)
 chain_for form (u ∷ units) =

@@ -14,12 +14,15 @@ module _ (form : EncodingForm) (cs : List ℕ) where
   halves : (i : ℕ) → encode form cs ≡ encode form (take i cs) ++ encode form (drop i cs)
   halves i = ap (encode form) (sym (take-append-drop i cs)) ∙ flat_map-append (code_units form) (take i cs) (drop i cs)
 
+  -- The encoding of the first characters is the units before their offset.
   pub encode-take : (i : ℕ) → encode form (take i cs) ≡ take (offset i) (encode form cs)
   encode-take i = sym (ap (take (offset i)) (halves i) ∙ take-append_seam (encode form (take i cs)) (encode form (drop i cs)))
 
+  -- The encoding of the characters after the first ones is the units from the offset on.
   pub encode-drop : (i : ℕ) → encode form (drop i cs) ≡ drop (offset i) (encode form cs)
   encode-drop i = sym (ap (drop (offset i)) (halves i) ∙ drop-append_seam (encode form (take i cs)) (encode form (drop i cs)))
 
+  -- Replacing characters replaces exactly their units.
   pub encode-splice : (new : List ℕ) (i j : ℕ) → encode form (splice cs i j new) ≡ splice (encode form cs) (offset i) (offset j) (encode form new)
   encode-splice new i j =
       flat_map-append (code_units form) (take i cs) (new ++ drop j cs) ∙ ap (λ us. encode form (take i cs) ++ us) (flat_map-append (code_units form) new (drop j cs))

@@ -54,13 +54,14 @@ chain-ends form (i ∷ j ∷ is) h l prefix chain pair e =
     let rest = chain-ends form (j ∷ is) h l at.0 chain.2 pair at.1 in
     (i ∷ rest.0, ap (λ xs. i ∷ xs) rest.1)
 
--- After characters and before characters, no pair is split.
+-- A list of characters does not end in a fault.
 chars-no_fault : (cs : List ℕ) (js : List Item) (h : ℕ) → map Char cs ≡ js ++ Fault h ∷ [] → ⊥
 chars-no_fault [] [] h e = cc
 chars-no_fault [] (j ∷ js) h e = cc
 chars-no_fault (c ∷ cs) [] h e = cc
 chars-no_fault (c ∷ cs) (j ∷ js) h e = let f : map Char cs ≡ js ++ Fault h ∷ [] = cc in chars-no_fault cs js h f
 
+-- After well-formed units, no pair is split.
 pub IsCut-after : (form : EncodingForm) (a b : List ℕ) → IsWellFormed form a → IsCut form a b
 IsCut-after form a b well prefix back h l e f pair =
     let at = chain-ends form (items form a) h l prefix (items-chain form a) pair (units_of-items form a ∙ e) in
@@ -70,6 +71,7 @@ first-no_low : (form : EncodingForm) (cs : List ℕ) (h l : ℕ) (back : List �
 first-no_low form [] h l back chain pair e = cc
 first-no_low form (c ∷ cs) h l back chain pair e = low-begins_nothing form h l c back (units_of form (map Char cs)) pair chain.0 e
 
+-- Before well-formed units, no pair is split.
 pub IsCut-before : (form : EncodingForm) (a b : List ℕ) → IsWellFormed form b → IsCut form a b
 IsCut-before form a b well prefix back h l e f pair =
     let plain = chars-of_well_formed form b well in
@@ -77,47 +79,55 @@ IsCut-before form a b well prefix back h l e f pair =
     let chain : Chain form (map Char (chars form b)) = subst (λ is. Chain form is) plain (items-chain form b) in
     first-no_low form (chars form b) h l back chain pair g
 
--- The items of concatenated lists are the concatenated items, if one of the two is well formed.
+-- The items of concatenated lists are the concatenated items, if the first list is well formed.
 pub items-append_left : (form : EncodingForm) (a b : List ℕ) → IsWellFormed form a → items form (a ++ b) ≡ items form a ++ items form b
 items-append_left form a b well = items-append form a b (IsCut-after form a b well)
 
+-- The items of concatenated lists are the concatenated items, if the second list is well formed.
 pub items-append_right : (form : EncodingForm) (a b : List ℕ) → IsWellFormed form b → items form (a ++ b) ≡ items form a ++ items form b
 items-append_right form a b well = items-append form a b (IsCut-before form a b well)
 
--- A decoder from the front: it reads a character, or a fault that is no pair with the unit after it.
+-- The units of a character are well formed.
 pub IsWellFormed-code_units : (form : EncodingForm) (c : ℕ) → IsScalar c → IsWellFormed form (code_units form c)
 IsWellFormed-code_units form c hc = IsWellFormed-of_chars form (code_units form c) (c ∷ []) (items-code_units form c hc)
 
+-- A decoder from the front reads a character, and then the items of the units after it.
 pub items-prefix_char : (form : EncodingForm) (c : ℕ) (us : List ℕ) → IsScalar c → items form (code_units form c ++ us) ≡ Char c ∷ items form us
 items-prefix_char form c us hc =
     items-append_left form (code_units form c) us (IsWellFormed-code_units form c hc) ∙ ap (λ is. is ++ items form us) (items-code_units form c hc)
 
+-- A decoder from the front reads a fault that is no pair with the unit after it, and then the items of the units after
+-- it.
 pub items-prefix_fault : (form : EncodingForm) (u : ℕ) (us : List ℕ) → IsFault form u → ((l : ℕ) (back : List ℕ) → us ≡ l ∷ back → ¬ (IsPair form u l)) → items form (u ∷ us) ≡ Fault u ∷ items form us
 items-prefix_fault form u us hu apart =
     let cut : IsCut form (u ∷ []) us = λ prefix back h l e f. let same : u ≡ h = fault-push u h prefix e in rw same at (apart l back f) in
     items-append form (u ∷ []) us cut ∙ ap (λ is. is ++ items form us) (items-fault form u hu)
 
--- A decoder from the back: it reads a character, or a fault that is no pair with the unit before it.
+-- A decoder from the back reads a character, and then the items of the units before it.
 pub items-back_char : (form : EncodingForm) (us : List ℕ) (c : ℕ) → IsScalar c → items form (us ++ code_units form c) ≡ items form us ++ Char c ∷ []
 items-back_char form us c hc =
     items-append_right form us (code_units form c) (IsWellFormed-code_units form c hc) ∙ ap (λ is. items form us ++ is) (items-code_units form c hc)
 
+-- A decoder from the back reads a fault that is no pair with the unit before it, and then the items of the units before
+-- it.
 pub items-back_fault : (form : EncodingForm) (us : List ℕ) (u : ℕ) → IsFault form u → ((prefix : List ℕ) (h : ℕ) → us ≡ prefix ++ h ∷ [] → ¬ (IsPair form h u)) → items form (us ++ u ∷ []) ≡ items form us ++ Fault u ∷ []
 items-back_fault form us u hu apart =
     let cut : IsCut form us (u ∷ []) = λ prefix back h l e f. let same : u ≡ l = cc in rw same at (apart prefix h e) in
     items-append form us (u ∷ []) cut ∙ ap (λ is. items form us ++ is) (items-fault form u hu)
 
--- What the first unit shows: a low surrogate is a fault, and so is a high one that no low one follows.
+-- A low surrogate that is the first unit is a fault.
 pub items-prefix_low : (form : EncodingForm) (u : ℕ) (us : List ℕ) → IsLowSurrogate form u → items form (u ∷ us) ≡ Fault u ∷ items form us
 items-prefix_low form u us low = items-prefix_fault form u us (IsFault-low form u low) (λ l back e pair. high-no_low form u (IsPair-parts form u l pair).0 low)
 
+-- A high surrogate that is the first unit is a fault if no low one follows it.
 pub items-prefix_high : (form : EncodingForm) (u : ℕ) (us : List ℕ) → IsHighSurrogate form u → ((l : ℕ) (back : List ℕ) → us ≡ l ∷ back → ¬ (IsLowSurrogate form l)) → items form (u ∷ us) ≡ Fault u ∷ items form us
 items-prefix_high form u us high apart = items-prefix_fault form u us (IsFault-high form u high) (λ l back e pair. apart l back e (IsPair-parts form u l pair).1)
 
--- What the last unit shows: a high surrogate is a fault, and so is a low one that no high one precedes.
+-- A high surrogate that is the last unit is a fault.
 pub items-back_high : (form : EncodingForm) (us : List ℕ) (u : ℕ) → IsHighSurrogate form u → items form (us ++ u ∷ []) ≡ items form us ++ Fault u ∷ []
 items-back_high form us u high = items-back_fault form us u (IsFault-high form u high) (λ prefix h e pair. high-no_low form u high (IsPair-parts form h u pair).1)
 
+-- A low surrogate that is the last unit is a fault if no high one precedes it.
 pub items-back_low : (form : EncodingForm) (us : List ℕ) (u : ℕ) → IsLowSurrogate form u → ((prefix : List ℕ) (h : ℕ) → us ≡ prefix ++ h ∷ [] → ¬ (IsHighSurrogate form h)) → items form (us ++ u ∷ []) ≡ items form us ++ Fault u ∷ []
 items-back_low form us u low apart = items-back_fault form us u (IsFault-low form u low) (λ prefix h e pair. apart prefix h e (IsPair-parts form h u pair).0)
 

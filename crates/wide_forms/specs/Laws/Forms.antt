@@ -26,26 +26,31 @@ high_of c = 0xD800 + (c - 0x1_0000) / 0x400
 abbrev pub low_of : ℕ → ℕ
 low_of c = 0xDC00 + (c - 0x1_0000) % 0x400
 
+-- A character below 1_0000 has one unit in UTF-16.
 pub one_unit : (c : ℕ) → c < 0x1_0000 → code_units Utf16 c ≡ c ∷ []
 one_unit c h = rw (lt-ltb c 0x1_0000 h)
 
+-- A character from 1_0000 on has two units in UTF-16.
 pub two_units : (c : ℕ) → 0x1_0000 ≤ c → code_units Utf16 c ≡ high_of c ∷ low_of c ∷ []
 two_units c h = rw (le-ltb c 0x1_0000 h)
 
+-- A character has one unit or two.
 pub code_units-cases : (form : EncodingForm) (c : ℕ) → ((u : ℕ) × (code_units form c ≡ u ∷ [])) ⊎ ((h : ℕ) × (l : ℕ) × (code_units form c ≡ h ∷ l ∷ []))
 code_units-cases Utf16 c = elim (cases_lt c 0x1_0000) [ inl below ↦ inl (c, one_unit c below) | inr from ↦ inr (high_of c, low_of c, two_units c from) ]
 code_units-cases Utf32 c = inl (c, refl)
 
+-- A character has at least one unit.
 pub some_units : (form : EncodingForm) (c : ℕ) → 1 ≤ length (code_units form c)
 some_units form c = elim (code_units-cases form c) [
   | inl one ↦ rw one.1 (omega arith)
   | inr two ↦ rw two.2 (omega arith)
 ]
 
--- No code unit sequence is a prefix of another.
+-- Characters with the same surrogate pair are equal.
 same_pair : (c d : ℕ) → 0x1_0000 ≤ c → 0x1_0000 ≤ d → high_of c ≡ high_of d → low_of c ≡ low_of d → c ≡ d
 same_pair c d from_c from_d high low = omega arith
 
+-- No code unit sequence is a prefix of another.
 pub code_units-prefix : (form : EncodingForm) (c d : ℕ) (xs ys : List ℕ) → IsScalar c → IsScalar d → code_units form c ++ xs ≡ code_units form d ++ ys → c ≡ d
 code_units-prefix Utf16 c d xs ys hc hd e =
     let rc = ranges c hc in
@@ -89,6 +94,7 @@ pub record IsLow (u : ℕ) : Type 0 where
   pub from : 0xDC00 ≤ u
   pub to : u < 0xE000
 
+-- In UTF-16, a high surrogate and a low one are a pair.
 pub pair16 : (h l : ℕ) → IsHigh h → IsLow l → IsPair Utf16 h l
 pair16 h l high low =
     let c : ℕ = 0x1_0000 + ((h - 0xD800) * 0x400 + (l - 0xDC00)) in
@@ -96,6 +102,7 @@ pair16 h l high low =
     let f : low_of c ≡ l = omega arith in
     (c, scalar_from c (record { below = omega arith; no_surrogate = λ from. omega arith }), two_units c (omega arith) ∙ ap (λ x. x ∷ low_of c ∷ []) e ∙ ap (λ x. h ∷ x ∷ []) f)
 
+-- In UTF-16, a pair is a high surrogate and a low one.
 pub pair16-parts : (h l : ℕ) → IsPair Utf16 h l → IsHigh h × IsLow l
 pair16-parts h l pair =
     let rc = ranges pair.0 pair.1 in
@@ -108,10 +115,11 @@ pair16-parts h l pair =
           (record { from = omega arith; to = omega arith }, record { from = omega arith; to = omega arith }))
     ]
 
+-- In UTF-32, no two units are a pair.
 pub no_pair32 : (h l : ℕ) → ¬ (IsPair Utf32 h l)
 no_pair32 h l pair = cc
 
--- A unit below 1_0000 that is no surrogate encodes a character.
+-- A unit of UTF-16 that encodes a character by itself is that character, below 1_0000.
 pub one_unit-is : (c u : ℕ) → code_units Utf16 c ≡ u ∷ [] → (c ≡ u) × (u < 0x1_0000)
 one_unit-is c u e =
     elim (cases_lt c 0x1_0000) [
@@ -145,6 +153,7 @@ unit-cases Utf32 u =
       | inr isnt ↦ inr (λ c hc e. let f : c ≡ u = cc in let g : scalar u ≡ true = rw f at hc in cc)
     ]
 
+-- Two units are a pair or not.
 pub pair-cases : (form : EncodingForm) (h l : ℕ) → IsPair form h l ⊎ (¬ (IsPair form h l))
 pair-cases Utf16 h l =
     elim (cases_lt h 0xD800) [
@@ -162,21 +171,23 @@ pair-cases Utf16 h l =
     ]
 pair-cases Utf32 h l = inr (no_pair32 h l)
 
--- The pairs are a high surrogate and a low one.
+-- A high surrogate and a low one are a pair.
 pub IsPair-from : (form : EncodingForm) (h l : ℕ) → IsHighSurrogate form h → IsLowSurrogate form l → IsPair form h l
 IsPair-from Utf16 h l high low = pair16 h l (record { from = high.0; to = omega arith }) (record { from = low.0; to = omega arith })
 IsPair-from Utf32 h l high low = absurd high
 
+-- A pair is a high surrogate and a low one.
 pub IsPair-parts : (form : EncodingForm) (h l : ℕ) → IsPair form h l → IsHighSurrogate form h × IsLowSurrogate form l
 IsPair-parts Utf16 h l pair =
     let parts = pair16-parts h l pair in
     ((parts.0.from, omega (arith, parts.0.to)), (parts.1.from, omega (arith, parts.1.to)))
 IsPair-parts Utf32 h l pair = absurd (no_pair32 h l pair)
 
--- The faults among the code units: the surrogates in UTF-16, and what is no scalar value in UTF-32.
+-- In UTF-16, a surrogate is a fault.
 pub IsFault-surrogate : (u : ℕ) → 0xD800 ≤ u → u ≤ 0xDFFF → IsFault Utf16 u
 IsFault-surrogate u from to = fault16 u (λ r. omega (arith, r.no_surrogate from))
 
+-- In UTF-16, a unit that is a fault is a surrogate.
 pub surrogate-of_fault : (u : ℕ) → u < 2 ^ 16 → IsFault Utf16 u → (0xD800 ≤ u) × (u ≤ 0xDFFF)
 surrogate-of_fault u below fault =
     elim (cases_lt u 0xD800) [
@@ -187,17 +198,20 @@ surrogate-of_fault u below fault =
       ]
     ]
 
+-- In UTF-32, a number that is no scalar value is a fault.
 pub IsFault-no_scalar : (u : ℕ) → ¬ (IsScalar u) → IsFault Utf32 u
 IsFault-no_scalar u none c hc e = let same : c ≡ u = cc in none (rw same at hc)
 
+-- In UTF-32, a fault is no scalar value.
 pub no_scalar-of_fault : (u : ℕ) → IsFault Utf32 u → ¬ (IsScalar u)
 no_scalar-of_fault u fault hu = fault u hu refl
 
--- A surrogate is a fault, and a unit that encodes a character is none.
+-- A high surrogate is a fault by itself.
 pub IsFault-high : (form : EncodingForm) (u : ℕ) → IsHighSurrogate form u → IsFault form u
 IsFault-high Utf16 u high = IsFault-surrogate u high.0 (omega arith)
 IsFault-high Utf32 u high = absurd high
 
+-- A low surrogate is a fault by itself.
 pub IsFault-low : (form : EncodingForm) (u : ℕ) → IsLowSurrogate form u → IsFault form u
 IsFault-low Utf16 u low = IsFault-surrogate u (omega arith) low.1
 IsFault-low Utf32 u low = absurd low
@@ -207,6 +221,7 @@ pub IsTrailing-from : (form : EncodingForm) (l : ℕ) → IsLowSurrogate form l 
 IsTrailing-from Utf16 l low = (0xD800, IsPair-from Utf16 0xD800 l (lit≤ tt, lit≤ tt) low)
 IsTrailing-from Utf32 l low = absurd low
 
+-- No unit is both a high surrogate and a low one.
 pub high-no_low : (form : EncodingForm) (u : ℕ) → IsHighSurrogate form u → IsLowSurrogate form u → ⊥
 high-no_low Utf16 u high low = omega arith
 high-no_low Utf32 u high low = high

@@ -14,6 +14,7 @@ use Rattle.wide_forms.specs.Laws.Items.{IsCut, items-append, items-nil, units_of
 use Rattle.wide_forms.specs.Laws.Ends.{items-prefix_char, items-back_char}
 use Rattle.wide_forms.specs.Laws.Boundaries.{units_of-append}
 
+-- No items have no lines.
 pub lines-nil : lines_of [] ≡ []
 lines-nil = refl
 
@@ -45,6 +46,7 @@ cond-some : (b : Bool) (xs ys : List (List Item)) → (xs ≡ [] → ⊥) → (y
 cond-some true xs ys some other e = some e
 cond-some false xs ys some other e = other e
 
+-- Items are split into at least one substring.
 pub substrings-some : (is : List Item) → slice_split is_line_feed is ≡ [] → ⊥
 substrings-some [] e = cc
 substrings-some (i ∷ is) e = cond-some (is_line_feed i) ([] ∷ slice_split is_line_feed is) (onto_first i (slice_split is_line_feed is)) (λ f. cc) (onto-some i (slice_split is_line_feed is)) e
@@ -69,6 +71,7 @@ placed-ended : (form : EncodingForm) (is rest : List Item) (offset : ℕ) → Al
 placed-ended form is rest offset none =
     ap (placed_substrings form offset) (slice_split_at is_line_feed is (Char line_feed) rest none refl) ∙ two_placed form offset is (slice_split is_line_feed rest) (substrings-some rest)
 
+-- A line that ends in a carriage return loses it.
 pub without-return : (is : List Item) → without_return (is ++ Char carriage_return ∷ []) ≡ is
 without-return [] = refl
 without-return (Char c ∷ []) = refl
@@ -79,13 +82,14 @@ keeps : (c : ℕ) (b : Bool) → eqb c carriage_return ≡ b → (c ≡ carriage
 keeps c true e other = absurd (other (eqb-true c carriage_return e))
 keeps c false e other = refl
 
+-- A line that does not end in a carriage return is unchanged.
 pub without-none : (is : List Item) → ((prefix : List Item) → is ≡ prefix ++ Char carriage_return ∷ [] → ⊥) → without_return is ≡ is
 without-none [] other = refl
 without-none (Char c ∷ []) other = keeps c (eqb c carriage_return) refl (λ e. other [] (ap (λ d. Char d ∷ []) e))
 without-none (Fault u ∷ []) other = refl
 without-none (i ∷ j ∷ is) other = ap (λ js. i ∷ js) (without-none (j ∷ is) (λ prefix e. other (i ∷ prefix) (ap (λ js. i ∷ js) e)))
 
--- A line feed in a list of units is a separate item.
+-- A line feed has one unit.
 pub one_feed : (form : EncodingForm) → code_units form line_feed ≡ line_feed ∷ []
 one_feed Utf16 = refl
 one_feed Utf32 = refl
@@ -99,11 +103,13 @@ no_pair_with_feed Utf16 h pair = let low = (IsPair-parts Utf16 h line_feed pair)
 no_pair_with_feed Utf32 h pair = (IsPair-parts Utf32 h line_feed pair).1
 
 module _ (form : EncodingForm) (prefix back : List ℕ) where
+  -- A line feed in a list of units is a separate item.
   pub items-at_feed : items form (prefix ++ line_feed ∷ back) ≡ items form prefix ++ Char line_feed ∷ items form back
   items-at_feed =
       let cut : IsCut form prefix (line_feed ∷ back) = λ ends starts h l e f pair. let same : line_feed ≡ l = cc in no_pair_with_feed form h (subst (λ u. IsPair form h u) (sym same) pair) in
       items-append form prefix (line_feed ∷ back) cut ∙ ap (λ is. items form prefix ++ is) (ap (λ us. items form (us ++ back)) (sym (one_feed form)) ∙ items-prefix_char form line_feed back refl)
 
+  -- A carriage return at the end of a list of units is a separate item.
   pub items-before_return : items form (prefix ++ carriage_return ∷ []) ≡ items form prefix ++ Char carriage_return ∷ []
   items-before_return = ap (λ us. items form (prefix ++ us)) (sym (one_return form)) ∙ items-back_char form prefix carriage_return refl
 
@@ -111,7 +117,7 @@ All-right : (P : ℕ → Type 0) (xs ys : List ℕ) → All P (xs ++ ys) → All
 All-right P [] ys all = all
 All-right P (x ∷ xs) ys all = All-right P xs ys (All-tail P x (xs ++ ys) all)
 
--- Units without a line feed have no item that is one.
+-- If no unit of the items is a line feed, no item is one.
 feed-item : (form : EncodingForm) (is : List Item) → All (λ u. u ≢ line_feed) (units_of form is) → All (λ i. is_line_feed i ≡ false) is
 feed-item form [] none = All-nil (λ i. is_line_feed i ≡ false)
 feed-item form (Char c ∷ is) none = All-cons (λ i. is_line_feed i ≡ false) (Char c) is (decide (eqb c line_feed) refl) (feed-item form is (All-right (λ u. u ≢ line_feed) (code_units form c) (units_of form is) none))
@@ -124,9 +130,11 @@ feed-item form (Char c ∷ is) none = All-cons (λ i. is_line_feed i ≡ false) 
         absurd (All-head (λ u. u ≢ line_feed) line_feed (units_of form is) (subst (λ us. All (λ u. u ≢ line_feed) us) units none) refl)
 feed-item form (Fault u ∷ is) none = All-cons (λ i. is_line_feed i ≡ false) (Fault u) is refl (feed-item form is (All-tail (λ v. v ≢ line_feed) u (units_of form is) none))
 
+-- Units without a line feed have no item that is one.
 pub items-no_feed : (form : EncodingForm) (us : List ℕ) → All (λ u. u ≢ line_feed) us → All (λ i. is_line_feed i ≡ false) (items form us)
 items-no_feed form us none = feed-item form (items form us) (subst (λ vs. All (λ u. u ≢ line_feed) vs) (sym (units_of-items form us)) none)
 
+-- Units that do not end in a carriage return have no such item at the end.
 pub items-no_return : (form : EncodingForm) (us : List ℕ) → ((prefix : List ℕ) → us ≡ prefix ++ carriage_return ∷ [] → ⊥) → (prefix : List Item) → items form us ≡ prefix ++ Char carriage_return ∷ [] → ⊥
 items-no_return form us other prefix e =
     other (units_of form prefix) (sym (units_of-items form us) ∙ ap (λ is. units_of form is) e ∙ units_of-append form prefix (Char carriage_return ∷ []) ∙ ap (λ vs. units_of form prefix ++ vs) (append-nil (code_units form carriage_return) ∙ one_return form))

@@ -14,13 +14,16 @@ use Rattle.wide_forms.specs.Laws.Items.{items-chain, chars-of_well_formed, encod
 use Rattle.wide_forms.specs.Laws.Ends.{items-append_left}
 use Rattle.wide_forms.specs.Laws.Offsets.{IsWellFormed-encode}
 
+-- The lossy text of characters is these characters.
 pub lossy-chars : (cs : List ℕ) → lossy (map Char cs) ≡ cs
 lossy-chars [] = refl
 lossy-chars (c ∷ cs) = ap (λ xs. c ∷ xs) (lossy-chars cs)
 
+-- The lossy text of well-formed units is their characters.
 pub lossy-well_formed : (form : EncodingForm) (us : List ℕ) → IsWellFormed form us → lossy (items form us) ≡ chars form us
 lossy-well_formed form us well = ap lossy (chars-of_well_formed form us well) ∙ lossy-chars (chars form us)
 
+-- The lossy text of well-formed units encodes to the units.
 pub encode-lossy : (form : EncodingForm) (us : List ℕ) → IsWellFormed form us → encode form (lossy (items form us)) ≡ us
 encode-lossy form us well = ap (λ cs. encode form cs) (lossy-well_formed form us well) ∙ encode-of_items form (chars form us) us (chars-of_well_formed form us well)
 
@@ -31,17 +34,19 @@ lossy-scalars form (Fault u ∷ is) chain zero d within = refl
 lossy-scalars form (Char c ∷ is) chain (suc k) d within = lossy-scalars form is chain.2 k d (omega arith)
 lossy-scalars form (Fault u ∷ is) chain (suc k) d within = lossy-scalars form is chain.2 k d (omega arith)
 
+-- Lossy text consists of scalar values.
 pub scalars-lossy : (form : EncodingForm) (us : List ℕ) → All IsScalar (lossy (items form us))
 scalars-lossy form us = lossy-scalars form (items form us) (items-chain form us)
 
+-- The encoding of lossy text is well formed.
 pub well_formed-lossy : (form : EncodingForm) (us : List ℕ) → IsWellFormed form (encode form (lossy (items form us)))
 well_formed-lossy form us = IsWellFormed-encode form (lossy (items form us)) (scalars-lossy form us)
 
--- Repairing twice is the same as repairing once.
+-- The encoding of lossy text is the encoding of its own lossy text.
 pub lossy-twice : (form : EncodingForm) (us : List ℕ) → encode form (lossy (items form (encode form (lossy (items form us))))) ≡ encode form (lossy (items form us))
 lossy-twice form us = encode-lossy form (encode form (lossy (items form us))) (well_formed-lossy form us)
 
--- U+FFFD has one unit, as a fault has.
+-- U+FFFD has one unit.
 one_replacement : (form : EncodingForm) → length (code_units form 0xFFFD) ≡ 1
 one_replacement Utf16 = refl
 one_replacement Utf32 = refl
@@ -51,6 +56,7 @@ lengths form [] = refl
 lengths form (Char c ∷ is) = omega (arith, length-append (code_units form c) (encode form (lossy is)), length-append (code_units form c) (units_of form is), lengths form is)
 lengths form (Fault u ∷ is) = omega (arith, length-append (code_units form 0xFFFD) (encode form (lossy is)), one_replacement form, lengths form is)
 
+-- The encoding of lossy text has as many units as the original, since a fault and U+FFFD have one unit each.
 pub length-lossy : (form : EncodingForm) (us : List ℕ) → length (encode form (lossy (items form us))) ≡ length us
 length-lossy form us = lengths form (items form us) ∙ ap length (units_of-items form us)
 

@@ -26,6 +26,7 @@ weight-character c scalar = elim (cases_lt c 0x1_0000) [
     low-low : (u : ℕ) → is_low (low_of u) ≡ true
     low-low u = grind arith
 
+-- There are as many units as characters and low surrogates together.
 pub low-encode : (cs : List ℕ) → ((k d : ℕ) → k < length cs → IsScalar (get_or cs k d)) → sum_by weight (encode Utf16 cs) + length cs ≡ length (encode Utf16 cs)
 low-encode [] scalars = refl
 low-encode (c ∷ cs) scalars =

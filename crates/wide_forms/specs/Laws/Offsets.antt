@@ -15,35 +15,43 @@ use Rattle.wide_forms.specs.Offsets.{IsOffsetOf, chars_before}
 use Rattle.wide_forms.specs.Laws.Items.{units_of-items, units_of-chars, encode-of_items, scalars-of_items, items-encode, chars-of_well_formed, IsWellFormed-of_chars}
 use Rattle.wide_forms.specs.Laws.Boundaries.{units_of-append}
 
+-- A list of items that are all characters has these characters.
 pub characters-chars : (cs : List ℕ) → characters (map Char cs) ≡ cs
 characters-chars [] = refl
 characters-chars (c ∷ cs) = ap (λ ds. c ∷ ds) (characters-chars cs)
 
+-- The encoding of scalar values has these as its characters.
 pub chars-encode : (form : EncodingForm) (cs : List ℕ) → All IsScalar cs → chars form (encode form cs) ≡ cs
 chars-encode form cs scalars = ap characters (items-encode form cs scalars) ∙ characters-chars cs
 
+-- The encoding of scalar values is well formed.
 pub IsWellFormed-encode : (form : EncodingForm) (cs : List ℕ) → All IsScalar cs → IsWellFormed form (encode form cs)
 IsWellFormed-encode form cs scalars = IsWellFormed-of_chars form (encode form cs) cs (items-encode form cs scalars)
 
+-- A boundary is at most the length of the units.
 pub IsBoundary-within : (form : EncodingForm) (us : List ℕ) (offset : ℕ) → IsBoundary form us offset → offset ≤ length us
 IsBoundary-within form us offset at =
     let joined : us ≡ units_of form at.0 ++ units_of form at.1 = sym (units_of-items form us) ∙ ap (units_of form) at.2 ∙ units_of-append form at.0 at.1 in
     omega (arith, ap length joined, length-append (units_of form at.0) (units_of form at.1), at.3)
 
+-- The beginning is a boundary.
 pub IsBoundary-start : (form : EncodingForm) (us : List ℕ) → IsBoundary form us 0
 IsBoundary-start form us = ([], items form us, refl, refl)
 
 module _ (form : EncodingForm) (us : List ℕ) (well : IsWellFormed form us) where
-  -- The units of the first characters, and of the others.
+  -- The units of the first characters.
   abbrev prefix_of : ℕ → List ℕ
   prefix_of index = encode form (take index (chars form us))
 
+  -- The units of the characters after the first ones.
   abbrev rest_of : ℕ → List ℕ
   rest_of index = encode form (drop index (chars form us))
 
+  -- The characters are scalar values.
   pub scalars-chars : All IsScalar (chars form us)
   scalars-chars = scalars-of_items form (chars form us) us (chars-of_well_formed form us well)
 
+  -- The encoding of the characters is the units.
   pub encode-chars : encode form (chars form us) ≡ us
   encode-chars = encode-of_items form (chars form us) us (chars-of_well_formed form us well)
 
@@ -86,7 +94,7 @@ module _ (form : EncodingForm) (us : List ℕ) (well : IsWellFormed form us) whe
   offset-IsOffsetOf index offset at = sym (length-take-le offset us (IsBoundary-within form us offset at.boundary)) ∙ ap length at.encoded
 
   module _ (offset : ℕ) (at : IsBoundary form us offset) where
-    -- Each boundary is the offset of a character, or the end.
+    -- The items before the boundary.
     abbrev items_before : List Item
     items_before = at.0
 
@@ -104,16 +112,19 @@ module _ (form : EncodingForm) (us : List ℕ) (well : IsWellFormed form us) whe
     count-items_before =
         ap length offset-items_before.prefix ∙ sym (length-map (take (length items_before) (chars form us)) Char) ∙ ap length (sym items_before-chars)
 
+    -- The boundary is the offset of a character, or the end.
     pub IsOffsetOf-boundary : IsOffsetOf form us (chars_before form us offset) offset
     IsOffsetOf-boundary = subst (λ n. IsOffsetOf form us n offset) (sym count-items_before) offset-items_before
 
+    -- At most all characters precede the boundary.
     pub chars_before-within : chars_before form us offset ≤ length (chars form us)
     chars_before-within = omega (arith, ap length offset-items_before.prefix, length-take (length items_before) (chars form us))
 
-    -- The slices before and after a boundary are well formed.
+    -- The slice before a boundary is well formed.
     pub IsWellFormed-take : IsWellFormed form (take offset us)
     IsWellFormed-take = subst (λ vs. IsWellFormed form vs) (sym offset-items_before.encoded) (IsWellFormed-encode form (take (length items_before) (chars form us)) (prefix_scalars (length items_before)))
 
+    -- The slice after a boundary is well formed.
     pub IsWellFormed-drop : IsWellFormed form (drop offset us)
     IsWellFormed-drop =
         subst (λ vs. IsWellFormed form vs) (sym (ap (λ n. drop n us) offset-prefix ∙ drop-prefix (length items_before)))

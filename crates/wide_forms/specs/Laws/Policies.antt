@@ -23,6 +23,7 @@ characters-append [] b = refl
 characters-append (Char c ∷ a) b = ap (λ l. c ∷ l) (characters-append a b)
 characters-append (Fault u ∷ a) b = characters-append a b
 
+-- Under `Run`, a character separates the text, whatever is on both sides.
 pub runs-at_char : (a b : List Item) (c : ℕ) → lossy_runs (a ++ Char c ∷ b) ≡ lossy_runs a ++ c ∷ lossy_runs b
 runs-at_char [] b c = refl
 runs-at_char (Char d ∷ a) b c = ap (λ l. d ∷ l) (runs-at_char a b c)
@@ -36,12 +37,13 @@ lossy_by-at_char Each a b c = map-append lossy_char a (Char c ∷ b)
 lossy_by-at_char Run a b c = runs-at_char a b c
 lossy_by-at_char Skip a b c = characters-append a (Char c ∷ b)
 
--- The faults that directly follow a fault yield no further U+FFFD.
+-- Under `Run`, a fault and the faults that directly follow it yield one U+FFFD.
 runs-from_fault : (b : List Item) (u : ℕ) → lossy_runs (Fault u ∷ b) ≡ 0xFFFD ∷ lossy_runs (past_faults b)
 runs-from_fault [] u = refl
 runs-from_fault (Char c ∷ b) u = refl
 runs-from_fault (Fault v ∷ b) u = runs-from_fault b v
 
+-- Under `Run`, the faults that directly follow a fault yield no further U+FFFD.
 pub runs-at_fault : (a b : List Item) (u : ℕ) → lossy_runs (a ++ Fault u ∷ b) ≡ lossy_runs (a ++ Fault u ∷ []) ++ lossy_runs (past_faults b)
 runs-at_fault [] b u = runs-from_fault b u
 runs-at_fault (Char d ∷ a) b u = ap (λ l. d ∷ l) (runs-at_fault a b u)
@@ -49,7 +51,7 @@ runs-at_fault (Fault v ∷ []) b u = runs-from_fault b u
 runs-at_fault (Fault v ∷ Char d ∷ a) b u = ap (λ l. 0xFFFD ∷ l) (runs-at_fault (Char d ∷ a) b u)
 runs-at_fault (Fault v ∷ Fault w ∷ a) b u = runs-at_fault (Fault w ∷ a) b u
 
--- Lossy text of items that no fault precedes.
+-- Lossy text after no fault is lossy text.
 pub lossy_after-none : (policy : Policy) (is : List Item) → lossy_after policy false is ≡ lossy_by policy is
 lossy_after-none Each is = refl
 lossy_after-none Run is = refl
@@ -65,42 +67,47 @@ runs-after false (Fault u ∷ a) b =
     let rest = lossy_after Run (ends_in_fault true a) b in
     runs-from_fault (a ++ b) u ∙ ap (λ l. 0xFFFD ∷ l) (runs-after true a b) ∙ ap (λ l. l ++ rest) (sym (runs-from_fault a u))
 
+-- The lossy text of concatenated lists is that of the first, and that of the second after it.
 pub lossy_after-append : (policy : Policy) (after : Bool) (a b : List Item) → lossy_after policy after (a ++ b) ≡ lossy_after policy after a ++ lossy_after policy (ends_in_fault after a) b
 lossy_after-append Each after a b = map-append lossy_char a b
 lossy_after-append Run after a b = runs-after after a b
 lossy_after-append Skip after a b = characters-append a b
 
+-- Whether concatenated lists end in a fault depends on the second list, or on the first if the second is empty.
 pub ends_in_fault-append : (after : Bool) (a b : List Item) → ends_in_fault after (a ++ b) ≡ ends_in_fault (ends_in_fault after a) b
 ends_in_fault-append after [] b = refl
 ends_in_fault-append after (Char c ∷ a) b = ends_in_fault-append false a b
 ends_in_fault-append after (Fault u ∷ a) b = ends_in_fault-append true a b
 
--- What a policy writes for a fault is U+FFFD.
+-- If a policy writes a character for a fault, it is U+FFFD.
 pub replacement-is : (policy : Policy) (after : Bool) (c : ℕ) → replacement policy after ≡ Some c → c ≡ 0xFFFD
 replacement-is Each after c e = cc
 replacement-is Run true c e = absurd cc
 replacement-is Run false c e = cc
 replacement-is Skip after c e = absurd cc
 
--- Lossy text item by item: a character is unchanged, and what the policy yields replaces a fault.
+-- The lossy text of no items is empty.
 pub lossy_after-none_left : (policy : Policy) (after : Bool) → lossy_after policy after [] ≡ []
 lossy_after-none_left Each after = refl
 lossy_after-none_left Run true = refl
 lossy_after-none_left Run false = refl
 lossy_after-none_left Skip after = refl
 
+-- A character is unchanged in lossy text.
 pub lossy_after-char : (policy : Policy) (after : Bool) (c : ℕ) (is : List Item) → lossy_after policy after (Char c ∷ is) ≡ c ∷ lossy_after policy false is
 lossy_after-char Each after c is = refl
 lossy_after-char Run true c is = refl
 lossy_after-char Run false c is = refl
 lossy_after-char Skip after c is = refl
 
+-- If the policy writes a character for a fault, lossy text has it in place of the fault.
 pub lossy_after-replaced : (policy : Policy) (after : Bool) (u c : ℕ) (is : List Item) → replacement policy after ≡ Some c → lossy_after policy after (Fault u ∷ is) ≡ c ∷ lossy_after policy true is
 lossy_after-replaced Each after u c is e = (let same : 0xFFFD ≡ c = cc in ap (λ d. d ∷ lossy is) same)
 lossy_after-replaced Run true u c is e = absurd cc
 lossy_after-replaced Run false u c is e = (let same : 0xFFFD ≡ c = cc in runs-from_fault is u ∙ ap (λ d. d ∷ lossy_runs (past_faults is)) same)
 lossy_after-replaced Skip after u c is e = absurd cc
 
+-- If the policy writes nothing for a fault, lossy text leaves the fault out.
 pub lossy_after-dropped : (policy : Policy) (after : Bool) (u : ℕ) (is : List Item) → replacement policy after ≡ None → lossy_after policy after (Fault u ∷ is) ≡ lossy_after policy true is
 lossy_after-dropped Each after u is e = absurd cc
 lossy_after-dropped Run true u is e = refl
@@ -124,22 +131,24 @@ lossy_after-all_replaced policy first later true (Fault u ∷ is) =
 lossy_after-all_replaced policy first later false (Fault u ∷ is) =
     lossy_after-fault policy false u is ∙ ap (λ b. (if b then 0xFFFD ∷ [] else []) ++ lossy_after policy true is) first ∙ ap (λ l. 0xFFFD ∷ l) (lossy_after-all_replaced policy first later true is)
 
--- A policy that has nothing for the first fault of a run has nothing for any fault: only the characters are left.
+-- A policy that has nothing for the first fault of a run has nothing for a later one.
 pub replacement-drops_run : (policy : Policy) → replacement policy false ≡ None → is_some (replacement policy true) ≡ false
 replacement-drops_run Each e = absurd cc
 replacement-drops_run Run e = refl
 replacement-drops_run Skip e = refl
 
+-- Under a policy that has nothing for the first fault of a run, only the characters are left.
 pub lossy_by-characters : (policy : Policy) (is : List Item) → replacement policy false ≡ None → lossy_by policy is ≡ characters is
 lossy_by-characters Each is e = absurd cc
 lossy_by-characters Run is e = absurd cc
 lossy_by-characters Skip is e = refl
 
--- A run of faults alone has one U+FFFD under `Run`, and no characters.
+-- Under `Run`, a run of faults alone yields one U+FFFD.
 pub runs-of_run : (u : ℕ) (us : List ℕ) → lossy_runs (map Fault (u ∷ us)) ≡ 0xFFFD ∷ []
 runs-of_run u [] = refl
 runs-of_run u (v ∷ us) = runs-of_run v us
 
+-- A run of faults alone has no characters.
 pub characters-of_run : (us : List ℕ) → characters (map Fault us) ≡ []
 characters-of_run [] = refl
 characters-of_run (u ∷ us) = characters-of_run us
@@ -168,6 +177,7 @@ characters-scalars form (Char c ∷ is) chain zero d within = chain.0
 characters-scalars form (Char c ∷ is) chain (suc k) d within = characters-scalars form is chain.2 k d (omega arith)
 characters-scalars form (Fault u ∷ is) chain k d within = characters-scalars form is chain.2 k d within
 
+-- Lossy text under a policy consists of scalar values.
 pub scalars-lossy_by : (policy : Policy) (form : EncodingForm) (us : List ℕ) → All IsScalar (lossy_by policy (items form us))
 scalars-lossy_by Each form us = scalars-lossy form us
 scalars-lossy_by Run form us = runs-scalars form (items form us) (items-chain form us)
@@ -178,19 +188,22 @@ past_faults-chain form [] chain = chain
 past_faults-chain form (Char c ∷ is) chain = chain
 past_faults-chain form (Fault u ∷ is) chain = past_faults-chain form is chain.2
 
+-- Lossy text of items that follow others consists of scalar values.
 pub scalars-lossy_after : (policy : Policy) (after : Bool) (form : EncodingForm) (us : List ℕ) → All IsScalar (lossy_after policy after (items form us))
 scalars-lossy_after Each after form us = scalars-lossy form us
 scalars-lossy_after Run true form us = runs-scalars form (past_faults (items form us)) (past_faults-chain form (items form us) (items-chain form us))
 scalars-lossy_after Run false form us = runs-scalars form (items form us) (items-chain form us)
 scalars-lossy_after Skip after form us = characters-scalars form (items form us) (items-chain form us)
 
--- Lossy text of well-formed units is their characters, and encodes to the units.
+-- Lossy text of well-formed units is their characters.
 pub lossy_by-well_formed : (policy : Policy) (form : EncodingForm) (us : List ℕ) → IsWellFormed form us → lossy_by policy (items form us) ≡ chars form us
 lossy_by-well_formed policy form us well = ap (lossy_by policy) (chars-of_well_formed form us well) ∙ lossy_by-chars policy (chars form us)
 
+-- Lossy text of well-formed units encodes to the units.
 pub encode-lossy_by : (policy : Policy) (form : EncodingForm) (us : List ℕ) → IsWellFormed form us → encode form (lossy_by policy (items form us)) ≡ us
 encode-lossy_by policy form us well = ap (λ cs. encode form cs) (lossy_by-well_formed policy form us well) ∙ encode-of_items form (chars form us) us (chars-of_well_formed form us well)
 
+-- The encoding of lossy text under a policy is well formed.
 pub well_formed-lossy_by : (policy : Policy) (form : EncodingForm) (us : List ℕ) → IsWellFormed form (encode form (lossy_by policy (items form us)))
 well_formed-lossy_by policy form us = IsWellFormed-encode form (lossy_by policy (items form us)) (scalars-lossy_by policy form us)
 
@@ -201,12 +214,13 @@ beyond-chars Each (c ∷ cs) is = ap (λ l. c ∷ l) (beyond-chars Each cs is)
 beyond-chars Run (c ∷ cs) is = ap (λ l. c ∷ l) (beyond-chars Run cs is)
 beyond-chars Skip (c ∷ cs) is = ap (λ l. c ∷ l) (beyond-chars Skip cs is)
 
--- Characters do not end in a fault, and their lossy text is these characters.
+-- Characters do not end in a fault, if there are any.
 pub ends_in_fault-chars : (after : Bool) (cs : List ℕ) → 0 < length cs → ends_in_fault after (map Char cs) ≡ false
 ends_in_fault-chars after [] some = absurd (omega arith)
 ends_in_fault-chars after (c ∷ []) some = refl
 ends_in_fault-chars after (c ∷ d ∷ cs) some = ends_in_fault-chars false (d ∷ cs) (omega arith)
 
+-- The lossy text of characters that follow others is these characters.
 pub lossy_after-chars : (policy : Policy) (after : Bool) (cs : List ℕ) → lossy_after policy after (map Char cs) ≡ cs
 lossy_after-chars Each after cs = lossy_by-chars Each cs
 lossy_after-chars Run true [] = refl
@@ -228,13 +242,13 @@ lossy_by-split policy form number units prefix back e well =
     sym (ap (λ is. encode form (lossy_by policy is)) joined ∙ ap (encode form) (beyond-chars policy cs (items form b)) ∙ flat_map-append (code_units form) cs left
     ∙ ap (λ us. us ++ encode form left) (encode-of_items form cs a (chars-of_well_formed form a well)))
 
--- Lossy text of lossy text is the same.
+-- Lossy text of encoded lossy text, under the same policy, is the same.
 pub lossy_by-twice : (policy : Policy) (form : EncodingForm) (us : List ℕ) → lossy_by policy (items form (encode form (lossy_by policy (items form us)))) ≡ lossy_by policy (items form us)
 lossy_by-twice policy form us =
     let text = lossy_by policy (items form us) in
     ap (lossy_by policy) (items-encode form text (scalars-lossy_by policy form us)) ∙ lossy_by-chars policy text
 
--- Lossy text is never longer in units than the original.
+-- U+FFFD has one unit.
 one_unit : (form : EncodingForm) → length (code_units form 0xFFFD) ≡ 1
 one_unit Utf16 = refl
 one_unit Utf32 = refl
@@ -246,6 +260,7 @@ module _ (form : EncodingForm) where
   fault_longer : (u : ℕ) (a : List ℕ) (is : List Item) → length (encode form a) ≤ length (units_of form is) → length (encode form (0xFFFD ∷ a)) ≤ length (units_of form (Fault u ∷ is))
   fault_longer u a is h = omega (arith, h, one_unit form, length-append (code_units form 0xFFFD) (encode form a))
 
+  -- Lossy text with U+FFFD for each fault is never longer in units than the original.
   pub length-each : (is : List Item) → length (encode form (lossy is)) ≤ length (units_of form is)
   length-each [] = omega arith
   length-each (Char c ∷ is) = char_longer c (lossy is) is (length-each is)
@@ -263,6 +278,7 @@ module _ (form : EncodingForm) where
   length-skip (Char c ∷ is) = char_longer c (characters is) is (length-skip is)
   length-skip (Fault u ∷ is) = omega (arith, length-skip is)
 
+-- Lossy text under a policy is never longer in units than the original.
 pub length-lossy_by : (policy : Policy) (form : EncodingForm) (us : List ℕ) → length (encode form (lossy_by policy (items form us))) ≤ length us
 length-lossy_by Each form us = rw (units_of-items form us) at (length-each form (items form us))
 length-lossy_by Run form us = rw (units_of-items form us) at (length-runs form (items form us))

@@ -25,19 +25,24 @@ contains-append [] js i at = absurd (omega (arith, at.1))
 contains-append (j ∷ is) js i (zero, within, e) = (0, omega arith, e)
 contains-append (j ∷ is) js i (suc k, within, e) = let rest = contains-append is js i (k, omega arith, e) in (suc rest.0, omega (arith, rest.1), rest.2)
 
+-- The empty list of units is well formed.
 pub IsWellFormed-nil : (form : EncodingForm) → IsWellFormed form []
 IsWellFormed-nil form = IsWellFormed-of_chars form [] [] (items-nil form)
 
+-- The empty list of units has no characters.
 pub chars-nil : (form : EncodingForm) → chars form [] ≡ []
 chars-nil form = ap characters (items-nil form)
 
+-- The units of a character have this character only.
 pub chars-code_units : (form : EncodingForm) (c : ℕ) → IsScalar c → chars form (code_units form c) ≡ c ∷ []
 chars-code_units form c hc = ap characters (items-code_units form c hc)
 
 module _ (form : EncodingForm) (us vs : List ℕ) where
+  -- If the first of two lists is well formed, the characters of the concatenated lists are the concatenated characters.
   pub chars-append : IsWellFormed form us → chars form (us ++ vs) ≡ chars form us ++ chars form vs
   chars-append well = ap characters (items-append_left form us vs well) ∙ characters-append (items form us) (items form vs)
 
+  -- Concatenated well-formed lists are well formed.
   pub IsWellFormed-append : IsWellFormed form us → IsWellFormed form vs → IsWellFormed form (us ++ vs)
   IsWellFormed-append left right =
       IsWellFormed-of_chars form (us ++ vs) (chars form us ++ chars form vs)
@@ -51,12 +56,13 @@ module _ (form : EncodingForm) (us vs : List ℕ) where
   }
 
 module _ (form : EncodingForm) (us : List ℕ) (from to : ℕ) (well : IsWellFormed form us) (at_from : IsBoundary form us from) (at_to : IsBoundary form us to) where
-  -- The slice between two boundaries is well formed, and its characters are those between them.
+  -- The slice between two boundaries is well formed.
   pub IsWellFormed-part : from ≤ to → IsWellFormed form (slice_range us from to)
   IsWellFormed-part forward =
       IsWellFormed-before form (slice_range us from to) (drop to us)
       (subst (λ xs. IsWellFormed form xs) (drop_split us from to forward) (IsWellFormed-drop form us well from at_from)) (IsWellFormed-drop form us well to at_to)
 
+  -- The characters of the slice between two boundaries are those between them.
   pub chars-part : from ≤ to → chars form (slice_range us from to) ≡ slice_range (chars form us) (chars_before form us from) (chars_before form us to)
   chars-part forward =
       let i = chars_before form us from in
@@ -77,9 +83,11 @@ module _ (form : EncodingForm) (us : List ℕ) (from to : ℕ) (well : IsWellFor
     back-well_formed : IsWellFormed form (new ++ drop to us)
     back-well_formed = IsWellFormed-append form new (drop to us) inserted (IsWellFormed-drop form us well to at_to)
 
+    -- If well-formed units replace those between two boundaries, the result is well formed.
     pub IsWellFormed-splice : IsWellFormed form (splice us from to new)
     IsWellFormed-splice = IsWellFormed-append form (take from us) (new ++ drop to us) (IsWellFormed-take form us well from at_from) back-well_formed
 
+    -- If well-formed units replace those between two boundaries, their characters replace those between the boundaries.
     pub chars-splice : chars form (splice us from to new) ≡ splice (chars form us) (chars_before form us from) (chars_before form us to) (chars form new)
     chars-splice =
         let prefix = (IsOffsetOf-boundary form us well from at_from).prefix in
@@ -92,6 +100,7 @@ module _ {X Y : Type 0} (f : X → Y) (xs : List X) (from to : ℕ) where
   map-slice_range : slice_range (map f xs) from to ≡ map f (slice_range xs from to)
   map-slice_range = ap (take (to - from)) (drop-map f from xs) ∙ take-map f (to - from) (drop from xs)
 
+  -- Mapping a list in which a slice was replaced maps each element.
   pub map-splice : (ys : List X) → splice (map f xs) from to (map f ys) ≡ map f (splice xs from to ys)
   map-splice ys =
       ap (λ us. take from (map f xs) ++ (map f ys ++ us)) (drop-map f to xs) ∙ ap (λ us. us ++ (map f ys ++ map f (drop to xs))) (take-map f from xs)

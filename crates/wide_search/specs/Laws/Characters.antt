@@ -13,13 +13,14 @@ use Rattle.wide_forms.specs.Laws.Offsets.{IsBoundary-within, IsOffsetOf-boundary
 use Rattle.wide_forms.specs.Laws.Policies.{characters-append}
 use Rattle.wide_search.specs.Occurrences.{OccursAt, IsFirstAt, IsLastAt}
 
--- The rest of a list from an index on begins with the needle.
+-- A needle occurs at an index if the rest of the list from there on begins with it.
 occurs-of_rest : {A : Type 0} (needle whole rest : List A) (at : ℕ) → at ≤ length whole → drop at whole ≡ needle ++ rest → OccursAt needle whole at
 occurs-of_rest needle whole rest at within e = record {
   within = omega (arith, within, length-drop at whole, ap length e, length-append needle rest);
   same = ap (λ xs. take (length needle) xs) e ∙ take-append_seam needle rest;
 }
 
+-- If a needle occurs at an index, the rest of the list from there on begins with it.
 rest-of_occurs : {A : Type 0} (needle whole : List A) (at : ℕ) → OccursAt needle whole at → drop at whole ≡ needle ++ drop (at + length needle) whole
 rest-of_occurs needle whole at occurs =
     sym (take-append-drop (length needle) (drop at whole)) ∙ ap (λ xs. xs ++ drop (length needle) (drop at whole)) occurs.same ∙ ap (λ xs. needle ++ xs) (drop-drop (length needle) at whole)
@@ -29,6 +30,7 @@ below-of_other a b within other = grind (arith, within, other)
 
 module _ (form : EncodingForm) (needle us : List ℕ) (well_needle : IsWellFormed form needle) (well : IsWellFormed form us) where
   module _ (at : ℕ) (boundary : IsBoundary form us at) where
+    -- The number of characters before the boundary.
     abbrev before : ℕ
     before = chars_before form us at
 
@@ -57,6 +59,7 @@ module _ (form : EncodingForm) (needle us : List ℕ) (well_needle : IsWellForme
         let offset = IsOffsetOf-boundary form us well at boundary in
         ap length (sym offset.encoded) ∙ length-take-le at us (IsBoundary-within form us at boundary)
 
+    -- If the characters occur after those before a boundary, the units occur at the boundary.
     pub occurs-units : OccursAt (chars form needle) (chars form us) (before at boundary) → OccursAt needle us at
     occurs-units occurs = subst (λ k. OccursAt needle us k) offset-is (occurs-encoded (before at boundary) occurs)
 
@@ -71,6 +74,7 @@ module _ (form : EncodingForm) (needle us : List ℕ) (well_needle : IsWellForme
           | inr other ↦ below-of_other (length (encode form (take n cs))) at (subst (λ k. length (encode form (take n cs)) ≤ k) offset-is grows) other
         ]
 
+    -- The first occurrence of the units is the first one of the characters.
     pub first-chars : 0 < length needle → IsFirstAt needle us at → IsFirstAt (chars form needle) (chars form us) (before at boundary)
     first-chars some first = record {
       here = occurs-chars at boundary first.here;
@@ -88,6 +92,7 @@ module _ (form : EncodingForm) (needle us : List ℕ) (well_needle : IsWellForme
           | inr other ↦ below-of_other at (length (encode form (take n cs))) (subst (λ k. k ≤ length (encode form (take n cs))) offset-is grows) other
         ]
 
+    -- The last occurrence of the units is the last one of the characters.
     pub last-chars : IsLastAt needle us at → IsLastAt (chars form needle) (chars form us) (before at boundary)
     last-chars last = record {
       here = occurs-chars at boundary last.here;

@@ -35,6 +35,7 @@ module _ (form : EncodingForm) (needle us : List ℕ) (at : ℕ) (well : IsWellF
   joined : prefix ++ (needle ++ rest) ≡ us
   joined = sym (parted needle us at occurs)
 
+  -- A well-formed needle that is not empty occurs at a boundary.
   pub IsBoundary-needle : IsBoundary form us at
   IsBoundary-needle =
       let b = IsBoundary-of_cut form prefix (needle ++ rest) (cut-before_needle form prefix needle rest some (IsCut-before form prefix needle well)) in

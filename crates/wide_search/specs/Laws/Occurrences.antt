@@ -6,7 +6,7 @@ use Rattle.wide_search.specs.Occurrences.{OccursAt, OccursNowhere, IsFirstAt, Is
 use Rattle.wide_search.specs.Substrings.{AreSubstrings, joined_with}
 
 module _ {A : Type 0} where
-  -- At most one occurrence is the first, and at most one the last.
+  -- At most one occurrence is the first.
   pub first-unique : (needle whole : List A) (one other : ℕ) → IsFirstAt needle whole one → IsFirstAt needle whole other → one ≡ other
   first-unique needle whole one other a b = elim (cases_lt one other) [
     | inl below ↦ absurd (b.before one below a.here)
@@ -16,6 +16,7 @@ module _ {A : Type 0} where
     ]
   ]
 
+  -- At most one occurrence is the last.
   pub last-unique : (needle whole : List A) (one other : ℕ) → IsLastAt needle whole one → IsLastAt needle whole other → one ≡ other
   last-unique needle whole one other a b = elim (cases_lt one other) [
     | inl below ↦ absurd (a.beyond other below b.here)
@@ -25,10 +26,11 @@ module _ {A : Type 0} where
     ]
   ]
 
-  -- An element before a list moves each occurrence by one index.
+  -- An element before a list moves each occurrence one index further.
   pub occurs-on : (needle : List A) (x : A) (xs : List A) (at : ℕ) → OccursAt needle xs at → OccursAt needle (x ∷ xs) (suc at)
   occurs-on needle x xs at occurs = record { within = omega (arith, occurs.within); same = occurs.same }
 
+  -- An occurrence after the first element is one in the rest of the list, one index earlier.
   pub occurs-back : (needle : List A) (x : A) (xs : List A) (at : ℕ) → OccursAt needle (x ∷ xs) (suc at) → OccursAt needle xs at
   occurs-back needle x xs at occurs = record { within = omega (arith, occurs.within); same = occurs.same }
 
@@ -40,6 +42,7 @@ module _ {A : Type 0} where
       let e : suc (n + at) ≡ suc n + at = omega arith in
       subst (λ k. OccursAt needle (x ∷ xs) k) e (occurs-on needle x xs (n + at) (occurs-beyond needle xs n at (omega (arith, within)) occurs))
 
+  -- An occurrence after the first `n` elements is one in the rest of the list, `n` indices earlier.
   pub occurs-left : (needle whole : List A) (n at : ℕ) → OccursAt needle whole (n + at) → OccursAt needle (drop n whole) at
   occurs-left needle whole zero at occurs = let e : 0 + at ≡ at = omega arith in subst (λ k. OccursAt needle whole k) e occurs
   occurs-left needle [] (suc n) at occurs = absurd (omega (arith, occurs.within))
@@ -47,7 +50,7 @@ module _ {A : Type 0} where
       let e : suc n + at ≡ suc (n + at) = omega arith in
       occurs-left needle xs n at (occurs-back needle x xs (n + at) (subst (λ k. OccursAt needle (x ∷ xs) k) e occurs))
 
-  -- An occurrence splits the list.
+  -- A list is what is before an occurrence, the needle, and what follows it.
   pub parted : (needle whole : List A) (at : ℕ) → OccursAt needle whole at → whole ≡ take at whole ++ (needle ++ drop (at + length needle) whole)
   parted needle whole at occurs =
       let rest : drop at whole ≡ needle ++ drop (length needle) (drop at whole) =
@@ -129,5 +132,6 @@ substrings-to p needle (suc n) whole l = elim (first-or_none (p ∷ needle) whol
   | inr nowhere ↦ (whole ∷ [], (refl, nowhere))
 ]
 
+-- A list is split at a separator that is not empty into some list of substrings.
 pub substrings-exist : (p : ℕ) (needle whole : List ℕ) → (ps : List (List ℕ)) × AreSubstrings (p ∷ needle) whole ps
 substrings-exist p needle whole = substrings-to p needle (length whole) whole (omega arith)
