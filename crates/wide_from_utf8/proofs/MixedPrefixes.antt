@@ -182,7 +182,7 @@ codes-at (suc n) (suc k) (b ∷ bs) within inside = codes-at n k bs (omega arith
 low-scalar : (c : ℕ) → c < 0xD800 → IsScalar c
 low-scalar c low = scalar_from c (record { below = omega arith; no_surrogate = λ from. omega arith })
 
--- Each is a scalar value, even if no character begins at the byte.
+-- The value that is computed at a byte is a scalar value, even if no character begins there.
 first-scalar : (bs : List ℕ) → (0xC0 ≤ get_or bs 0 0 → IsUtf8 bs × (0 < length bs)) → IsScalar (code-first bs)
 first-scalar bs text =
     let a : ℕ = get_or bs 0 0 in

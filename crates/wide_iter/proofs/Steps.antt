@@ -64,7 +64,7 @@ module _ (form : EncodingForm) (all rest : List ℕ) where
       same_end : (xs ys : List ℕ) (x y : ℕ) → xs ++ x ∷ [] ≡ ys ++ y ∷ [] → x ≡ y
       same_end xs ys x y k = (same_from_push xs ys x y k).1
 
--- In UTF-32, by the item of the unit that was read.
+-- What a decoder of UTF-32 yields, by the item of the unit that was read.
 module _ (all rest : List ℕ) (u : ℕ) (i : Item) (alone : items Utf32 (u ∷ []) ≡ i ∷ []) where
   pub first_unit32 : all ≡ u ∷ rest → items Utf32 all ≡ i ∷ items Utf32 rest
   first_unit32 e = ap (λ us. items Utf32 us) e ∙ items32-append (u ∷ []) rest ∙ ap (λ is. is ++ items Utf32 rest) alone

@@ -51,8 +51,7 @@ module _ {X : Type 0} (number : X → ℕ) (same : (x y : X) → number x ≡ nu
   pub substrings-split : (prefix rest : List X) → 0 < length needle → IsFirstSplit needle us prefix rest → substrings (map number needle) (map number us) ≡ map number prefix ∷ substrings (map number needle) (map number rest)
   substrings-split prefix rest some split = substrings-first (map number needle) (map number us) (map number prefix) (map number rest) (omega (arith, some, length-map needle number)) (split-numbers prefix rest split)
 
--- The substrings of units at a separator that is not empty, by their numbers, are those of each split at a first
--- occurrence.
+-- The numbers of units are split at a separator that is not empty into `substrings`.
 pub substrings-cut : {X : Type 0} (number : X → ℕ) (needle us : List X) → 0 < length needle → AreSubstrings (map number needle) (map number us) (substrings (map number needle) (map number us))
 substrings-cut number needle us some = substrings-are (map number needle) (map number us) (omega (arith, some, length-map needle number))
 
