@@ -26,7 +26,7 @@ PLAIN = "\u6df1\U0001f41f\U0001f400"
 
 
 class Unknown(Exception):
-    """This model does not know what is printed."""
+    """The arguments or the file are such that this model does not know what is printed."""
 
 
 def units_of(text):

@@ -67,7 +67,7 @@ def debug_of(char):
 
 
 class Fault(Exception):
-    """Why no more resources are read."""
+    """The damage after which no more resources are read."""
 
 
 class Reader:

@@ -1,4 +1,7 @@
-/* Reads units of UTF-16 in hexadecimal from the command line, prints the first fault, and prints the repaired text as UTF-8. */
+/*
+ * Reads units of UTF-16 in hexadecimal from the command line, prints the first fault, and prints the repaired text as
+ * UTF-8.
+ */
 #include "widestring.h"
 #include <stdio.h>
 #include <stdlib.h>
