@@ -248,8 +248,8 @@ mod icu {
         ) -> *mut u16;
     }
 
-    /// Returns the prefix of the buffer that a call wrote; the call returns its length and its error by pointers. Errors
-    /// below 0 are warnings.
+    /// Returns the prefix of the buffer that a call wrote; the call returns its length and its error by pointers.
+    /// Errors below 0 are warnings.
     fn written<To: Clone>(buffer: &mut [To], call: impl FnOnce(*mut To, i32, *mut i32, *mut i32)) -> Option<Cow<'_, [To]>> {
         let (mut length, mut error) = (0, 0);
         call(buffer.as_mut_ptr(), buffer.len() as i32, &mut length, &mut error);

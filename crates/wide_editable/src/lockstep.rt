@@ -166,8 +166,8 @@ pub fn run_both<T: TextEdit, U: TextEdit>(
     ensures capacity_second { U.capacity second.old ≤ U.capacity second.new }
 {
     let ran = make_all_both(alloc, first, second, edits, first_replies, second_replies);
-    // The two calls of `unit_count` change nothing. Their contracts give the proof that the units are the encoding of the
-    // characters.
+    // The two calls of `unit_count` change nothing. Their contracts give the proof that the units are the encoding of
+    // the characters.
     let _first_units = first.unit_count();
     let _second_units = second.unit_count();
     ran

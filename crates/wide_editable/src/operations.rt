@@ -2,8 +2,8 @@
 //! allocated before.
 //!
 //! If a search found no offset, the index is past the end. The results of calls that could fail to allocate are not
-//! read, because the capacity was reserved before. `string_facts` changes nothing: its contract gives the proofs the facts
-//! that are true of every string.
+//! read, because the capacity was reserved before. `string_facts` changes nothing: its contract gives the proofs the
+//! facts that are true of every string.
 ghost use Rattle.std.specs.Prelude.{◌≡◌, ◌≤◌, [], length, map, vec_capacity};
 ghost use Rattle.wide_forms.specs.Offsets.{text_of};
 ghost use Rattle.wide_utfstr.specs.View.{text_seen};

@@ -1,4 +1,5 @@
--- Tables of 256 rows, each of which is checked against its number by computing; and lists of eight numbers in SIMD lanes.
+-- Tables of 256 rows, each of which is checked against its number by computing; and lists of eight numbers in SIMD
+-- lanes.
 use Rattle.std.proofs.Common.{◌≡◌, ℕ, zero, suc, ◌+◌, ◌*◌, ◌/◌, ◌%◌, ◌<◌, ◌≤◌, ◌&&◌, Bool, true, false, T, inl, inr, List, [], ◌∷◌, length, get_or, refl, ap, ◌∙◌, subst, arith}
 use Rattle.std.specs.Int.RustNames.{count_ones}
 use Rattle.std.proofs.Math.Facts.{eqb_yes}

@@ -44,8 +44,8 @@ ends_in_fault after_fault [] = after_fault
 ends_in_fault after_fault (Char c ∷ is) = ends_in_fault false is
 ends_in_fault after_fault (Fault u ∷ is) = ends_in_fault true is
 
--- Lossy text of items that follow others. `after_fault` says whether a fault directly precedes them; under `Run` its run
--- then continues without another U+FFFD.
+-- Lossy text of items that follow others. `after_fault` says whether a fault directly precedes them; under `Run` its
+-- run then continues without another U+FFFD.
 abbrev pub lossy_after : Policy → Bool → List Item → List ℕ
 lossy_after Each after_fault is = lossy is
 lossy_after Run true is = lossy_runs (past_faults is)

@@ -35,9 +35,10 @@ module _ (cs : List ℕ) (before after : Steps) where
     pub back : offset cs low + high < offset cs high + low → high - to < to - low → counted after + offset cs to ≡ counted before + offset cs high
 
   -- The steps of entry number `number + 1` of `entries`, after an edit of a text of `count` characters that has `total`
-  -- now. The characters to which the old entries belong have moved by the difference of the two. If there are at least as many
-  -- characters as before, the new entry is between the new entry before it and the offset to which the old entry moved.
-  -- If there are fewer, it is between the offsets to which this old entry and the next one moved, or up to the end.
+  -- now. The characters to which the old entries belong have moved by the difference of the two. If there are at least
+  -- as many characters as before, the new entry is between the new entry before it and the offset to which the old
+  -- entry moved. If there are fewer, it is between the offsets to which this old entry and the next one moved, or up to
+  -- the end.
   pub record AddsMoved (entries number count total : ℕ) : Type 0 where
     pub more : count ≤ total → AddsPassed (64 * number) (total + 64 * (number + 1) - count) (64 * (number + 1))
     pub fewer : total < count → number + 1 < entries → AddsPassed (total + 64 * (number + 1) - count) (total + 64 * (number + 2) - count) (64 * (number + 1))

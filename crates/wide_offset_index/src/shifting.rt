@@ -1,5 +1,5 @@
-//! The offset index, which holds the offset in units of every 64th character, an entry each, after an edit that replaces
-//! few characters by few: the entries after them are moved, and not computed again.
+//! The offset index, which holds the offset in units of every 64th character, an entry each, after an edit that
+//! replaces few characters by few: the entries after them are moved, and not computed again.
 ghost use Rattle.std.specs.Prelude.{◌≡◌, ◌+◌, ◌-◌, ◌*◌, ◌/◌, ◌<◌, ◌≤◌, ◌↔◌, length, take, map, max, slice_index, vec_capacity, IsSome, IfSome};
 ghost use Rattle.std.specs.List.{range_with_len};
 ghost use Rattle.wide_forms.specs.EncodingForm.{Utf16};
@@ -33,8 +33,8 @@ pub struct Range16 {
 }
 
 /// Returns the number of characters of a text in which few characters were replaced by few, and otherwise `None`. The
-/// text had `count` characters and `units` units before. It adds to `steps` one for each unit of the new characters that
-/// it reads, and reads none if more than 31 characters were removed, or if the new ones have more than 62 units.
+/// text had `count` characters and `units` units before. It adds to `steps` one for each unit of the new characters
+/// that it reads, and reads none if more than 31 characters were removed, or if the new ones have more than 62 units.
 ///
 /// # Requires
 ///

@@ -3,8 +3,8 @@ use Rattle.std.specs.Prelude.{ℕ, zero, suc, List, [], ◌∷◌, ◌++◌}
 use Rattle.wide_search.specs.Substrings.{joined_with}
 
 module _ {A : Type 0} where
-  -- The substrings, joined with `with` in place of the first `count` occurrences of the needle, and with the needle from
-  -- there on.
+  -- The substrings, joined with `with` in place of the first `count` occurrences of the needle, and with the needle
+  -- from there on.
   abbrev pub joined_first : ℕ → List A → List A → List (List A) → List A
   joined_first zero with needle substrings = joined_with needle substrings
   joined_first (suc count) with needle [] = []

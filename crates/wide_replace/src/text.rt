@@ -12,8 +12,8 @@ use wide_utferror::FaultUnit;
 use wide_utfstr::UtfStr;
 use wide_utfstring::UtfString;
 
-/// Calls of a view of well-formed text that make a string with occurrences of a needle replaced. The needle is a text or
-/// a character. They are in a trait because the view's crate does not know owned strings. The Rust crate has no such
+/// Calls of a view of well-formed text that make a string with occurrences of a needle replaced. The needle is a text
+/// or a character. They are in a trait because the view's crate does not know owned strings. The Rust crate has no such
 /// calls.
 ///
 /// # Example

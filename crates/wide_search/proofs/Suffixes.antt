@@ -23,8 +23,8 @@ pub record IsLeastPeriod (lt : ℕ → ℕ → Type 0) (x : ℕ → ℕ) (e l p 
   pub periodic : (i j : ℕ) → i + p ≡ j → l ≤ i → j < e → x i ≡ x j
   pub least : (d : ℕ) → 0 < d → d < p → IsLesser lt x (l + p) (l + d) l
 
--- The suffix from l on is greater than those before it, and has the period p up to the k numbers from o on. From base on,
--- one period before o, the numbers are those from l on.
+-- The suffix from l on is greater than those before it, and has the period p up to the k numbers from o on. From base
+-- on, one period before o, the numbers are those from l on.
 pub record IsCandidate (lt : ℕ → ℕ → Type 0) (x : ℕ → ℕ) (m l o k p : ℕ) : Type 0 where
   pub base : ℕ
   pub based : base + p ≡ o

@@ -47,8 +47,8 @@ MayBePaired Clean units = Unit {0}
 MayBePaired HalfUnit units = Unit {0}
 MayBePaired (Unpaired index item unit) units = (index + 1 ≡ length units) × IsHighSurrogate Utf16Form unit
 
--- Once no further unit can make a pair of it, a fault is reported before the next read: no read that failed or found the
--- end followed such a fault. `ending` and `units` are those of the bytes that were read.
+-- Once no further unit can make a pair of it, a fault is reported before the next read: no read that failed or found
+-- the end followed such a fault. `ending` and `units` are those of the bytes that were read.
 abbrev pub ReportsFault : {T : Type 0} → Result T TranscodeError → Bool → Ending → List ℕ → Type 0
 ReportsFault (Ok u) ended ending units = Unit {0}
 ReportsFault (Err Read) ended ending units = MayBePaired ending units

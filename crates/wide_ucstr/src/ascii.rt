@@ -21,8 +21,8 @@ impl<C: FaultUnit> UCStr<'_, C> {
         self.as_ustr().is_ascii()
     }
 
-    /// Returns whether the contents of two C strings are the same, without regard to the case of ASCII letters. A letter
-    /// past ASCII differs from the one in the other case. It stops at the first difference.
+    /// Returns whether the contents of two C strings are the same, without regard to the case of ASCII letters. A
+    /// letter past ASCII differs from the one in the other case. It stops at the first difference.
     ///
     /// # Example
     ///

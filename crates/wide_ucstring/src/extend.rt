@@ -16,7 +16,8 @@ use wide_ustring::UString;
 use wide_ustring::extend::{Appendable, Growing, extend, from_iter};
 use wide_utferror::FaultUnit;
 
-/// The marker for the impls of `Appendable` for C strings, which append their contents, without their NULs, to a string.
+/// The marker for the impls of `Appendable` for C strings, which append their contents, without their NULs, to a
+/// string.
 ///
 /// # Example
 ///

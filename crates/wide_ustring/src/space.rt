@@ -24,8 +24,8 @@ pub(crate) fn cut<C: Copy, A: Allocator>(units: &mut Vec<C, A>, from: usize, to:
     }
 }
 
-// Replaces the units from `from` up to `to` by a gap of `count` units, whose values are unspecified. Each unit from `to`
-// on moves once at most, and none if `count` is `to - from`.
+// Replaces the units from `from` up to `to` by a gap of `count` units, whose values are unspecified. Each unit from
+// `to` on moves once at most, and none if `count` is `to - from`.
 pub(crate) fn open<C: Unit, A: Allocator>(
     units: &mut Vec<C, A>,
     from: usize,

@@ -54,8 +54,8 @@ pub trait UStrInUstring<C: FaultUnit> {
         ensures succeeds { count ≡ 0 → IsOk result }
         ensures empty { text self ≡ [] → IsOk result };
 
-    /// Copies the view's units into a new string, and writes each upper-case ASCII letter in lower case. Allocates once,
-    /// or not at all if there are no units.
+    /// Copies the view's units into a new string, and writes each upper-case ASCII letter in lower case. Allocates
+    /// once, or not at all if there are no units.
     ///
     /// # Errors
     ///
@@ -74,8 +74,8 @@ pub trait UStrInUstring<C: FaultUnit> {
         ensures units { IfOk result (λ s. map C.number s.units ≡ map to_ascii_lowercase (map C.number (text self))) }
         ensures succeeds { text self ≡ [] → IsOk result };
 
-    /// Copies the view's units into a new string, and writes each lower-case ASCII letter in upper case. Allocates once,
-    /// or not at all if there are no units.
+    /// Copies the view's units into a new string, and writes each lower-case ASCII letter in upper case. Allocates
+    /// once, or not at all if there are no units.
     ///
     /// # Errors
     ///

@@ -30,8 +30,9 @@ fn compare_chars<C: Unit>(left: UtfStr<'_, C>, right: UtfStr<'_, C>) -> Ordering
 }
 
 impl<C: Unit> UtfStr<'_, C> {
-    /// Compares two texts by the code points of their characters, as UTF-8 and UTF-32 are ordered. `<` and `cmp` compare
-    /// units, which in UTF-16 puts characters past U+FFFF, whose first unit is a surrogate, before U+E000 to U+FFFF.
+    /// Compares two texts by the code points of their characters, as UTF-8 and UTF-32 are ordered. `<` and `cmp`
+    /// compare units, which in UTF-16 puts characters past U+FFFF, whose first unit is a surrogate, before U+E000 to
+    /// U+FFFF.
     ///
     /// The prefix that both texts share is passed in SIMD lanes. Of what follows it, only the first character is
     /// decoded.
