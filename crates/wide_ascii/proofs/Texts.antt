@@ -47,7 +47,7 @@ module _ (f : ℕ → ℕ) (of_ascii : IsOfAscii f) where
   at-mapped : (us : List ℕ) (k : ℕ) → get_or (map f us) k 0 ≡ f (get_or us k 0)
   at-mapped us k = ap (get_or (map f us) k) (sym of_ascii.nul) ∙ get_or-map f us k 0
 
-  -- The first NUL is the first one after the mapping too.
+  -- Mapping leaves the first NUL where it is.
   pub IsFirstNul-mapped : (us : List ℕ) (at : ℕ) → IsFirstNul us at → IsFirstNul (map f us) at
   IsFirstNul-mapped us at is = record {
     at = (omega (arith, is.at.0, length-map us f), at-mapped us at ∙ ap f is.at.1 ∙ of_ascii.nul);
@@ -83,6 +83,7 @@ module _ (f : ℕ → ℕ) (of_ascii : IsOfAscii f) where
     mapped : encode form (map f (chars form us)) ≡ map f us
     mapped = encode-mapped form (chars form us) ∙ ap (map f) (encode-chars form us well)
 
+    -- Mapping leaves well-formed units well formed.
     pub IsWellFormed-mapped : IsWellFormed form (map f us)
     IsWellFormed-mapped = subst (IsWellFormed form) mapped (IsWellFormed-encode form (map f (chars form us)) scalars-mapped)
 

@@ -46,6 +46,7 @@ whole-units Little (u ∷ units) = let same : u % 0x100 + 0x100 * (u / 0x100) �
 whole-units Big [] = refl
 whole-units Big (u ∷ units) = let same : 0x100 * (u / 0x100) + u % 0x100 ≡ u = omega arith in ap (λ x. x ∷ units_in Big (bytes_in Big units)) same ∙ ap (λ us. u ∷ us) (whole-units Big units)
 
+-- The bytes of units leave no half unit.
 pub none-left : (order : BoM) (units : List ℕ) → half_of (bytes_in order units) ≡ []
 unfolding half_of
 none-left Little [] = refl

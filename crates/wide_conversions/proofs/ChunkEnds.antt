@@ -205,9 +205,11 @@ has_fault bs n len valid is =
       items = utf8_items-valid_up_to bs n len valid is;
     }
 
+-- Nothing follows the longest prefix of bytes that are UTF-8.
 pub ends-complete : (bs : List ℕ) → IsUtf8 bs → EndsAs bs (length bs) Complete
 ends-complete bs text = (refl, (text, utf8_items-text bs text))
 
+-- If bytes are UTF-8, they are said to be complete.
 pub complete-text : (bs : List ℕ) (n : ℕ) (end : Utf8End) → EndsAs bs n end → IsUtf8 bs → end ≡ Complete
 complete-text bs n Complete ends text = refl
 complete-text bs n (IllFormed len) ends text = absurd (not_text bs n ends.0.valid text)

@@ -66,12 +66,14 @@ prefix-four (x ∷ y ∷ []) some = absurd (omega arith)
 prefix-four (x ∷ y ∷ z ∷ []) some = absurd (omega arith)
 prefix-four (x ∷ y ∷ z ∷ w ∷ bs) some = refl
 
+-- An index at which a byte other than zero is read lies within the bytes.
 pub longer : (bs : List ℕ) (k : ℕ) → 0 < get_or bs k 0 → k < length bs
 longer [] k some = absurd (omega arith)
 longer (x ∷ bs) zero some = omega arith
 longer (x ∷ bs) (suc k) some = omega (arith, longer bs k some)
 
 module _ (bs : List ℕ) (some : 0 < length bs) where
+  -- Bytes whose first byte is ASCII begin with this character.
   pub begins-ascii : get_or bs 0 0 < 0x80 → BeginsWith bs (Char (get_or bs 0 0)) 1
   begins-ascii low = begins-character bs (get_or bs 0 0) 1 (grind (arith, nat_tests)) (prefix-one bs some ∙ sym (one_byte (get_or bs 0 0) low))
 

@@ -50,5 +50,6 @@ module _ (form : EncodingForm) where
         ap (lossy_after policy after) parts ∙ lossy_after-append policy after (map Char cs) (Fault u ∷ rest) ∙ ap (λ ds. ds ++ lossy_after policy (ends_in_fault after (map Char cs)) (Fault u ∷ rest)) (lossy_after-chars policy after cs)
         ∙ ap (λ f. cs ++ lossy_after policy f (Fault u ∷ rest)) last ∙ ap (λ ds. cs ++ ds) (lossy_after-append policy between (Fault u ∷ []) rest)
 
+    -- Lossy text of well-formed units is their characters.
     pub lossy-valid : (us : List ℕ) (after : Bool) → IsWellFormed form us → lossy_after policy after (items form us) ≡ chars form us
     lossy-valid us after well = ap (lossy_after policy after) (chars-of_well_formed form us well) ∙ lossy_after-chars policy after (chars form us)

@@ -45,9 +45,11 @@ module _ (form : EncodingForm) (policy : Policy) where
   encode-append : (cs ds : List ℕ) → encode form (cs ++ ds) ≡ encode form cs ++ encode form ds
   encode-append cs ds = flat_map-append (code_units form) cs ds
 
+  -- No bytes have no lossy text.
   pub lossy-none : (bs us : List ℕ) (after : Bool) → IsLossyPrefix form policy bs 0 after after us us
   lossy-none bs us after = record { prefix = []; items = refl; units = sym (append-nil us) ∙ ap (λ cs. us ++ encode form cs) (sym (lossy_after-none_left policy after)); flag = refl }
 
+  -- The lossy text of a prefix, and that of a prefix of the rest, are the lossy text of both.
   pub lossy-then : (bs x y z : List ℕ) (n m : ℕ) (a b c : Bool) → IsLossyPrefix form policy bs n a b x y → IsLossyPrefix form policy (take (length bs - n) (drop n bs)) m b c y z → IsLossyPrefix form policy bs (n + m) a c x z
   lossy-then bs x y z n m a b c prefix back =
       let beyond = beyond-is bs n in
@@ -71,6 +73,7 @@ module _ (form : EncodingForm) (policy : Policy) where
       ap (λ is. old ++ encode form (lossy_after policy a is)) prefix.items ∙ ap (λ cs. old ++ encode form cs) (lossy_after-append policy a prefix.prefix beyond ∙ ap (λ f. text ++ lossy_after policy f beyond) (sym prefix.flag))
       ∙ ap (λ us. old ++ us) (encode-append text rest) ∙ sym (append_assoc old (encode form text) (encode form rest)) ∙ ap (λ us. us ++ encode form rest) (sym prefix.units)
 
+  -- A character that the bytes begin with is its own lossy text.
   pub lossy-character : (bs old new : List ℕ) (n c : ℕ) (after : Bool) → BeginsWith bs (Char c) n → new ≡ old ++ code_units form c → IsLossyPrefix form policy bs n after false old new
   lossy-character bs old new n c after begins more = record {
     prefix = Char c ∷ [];
@@ -79,6 +82,7 @@ module _ (form : EncodingForm) (policy : Policy) where
     flag = refl;
   }
 
+  -- If the policy writes a character for a fault that the bytes begin with, that is its lossy text.
   pub lossy-replaced : (bs old new : List ℕ) (n u c : ℕ) (after : Bool) → BeginsWith bs (Fault u) n → replacement policy after ≡ Some c → new ≡ old ++ code_units form c → IsLossyPrefix form policy bs n after true old new
   lossy-replaced bs old new n u c after begins by more = record {
     prefix = Fault u ∷ [];
@@ -87,6 +91,7 @@ module _ (form : EncodingForm) (policy : Policy) where
     flag = refl;
   }
 
+  -- If the policy writes nothing for a fault that the bytes begin with, it has no lossy text.
   pub lossy-dropped : (bs old new : List ℕ) (n u : ℕ) (after : Bool) → BeginsWith bs (Fault u) n → replacement policy after ≡ None → new ≡ old → IsLossyPrefix form policy bs n after true old new
   lossy-dropped bs old new n u after begins by more = record {
     prefix = Fault u ∷ [];
@@ -95,6 +100,7 @@ module _ (form : EncodingForm) (policy : Policy) where
     flag = refl;
   }
 
+  -- ASCII bytes that the bytes begin with are their own lossy text.
   pub lossy-ascii : (bs old new : List ℕ) (n : ℕ) (after : Bool) → 0 < n → n ≤ length bs → ((k : ℕ) → k < n → get_or bs k 0 < 0x80) → new ≡ old ++ take n bs → IsLossyPrefix form policy bs n after false old new
   lossy-ascii bs old new n after some within ascii more = record {
     prefix = map Char (take n bs);

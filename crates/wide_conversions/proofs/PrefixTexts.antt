@@ -39,11 +39,14 @@ utf8_items-prefix bs n text =
     let items = after_text (take n bs) rest (utf8_items rest) text (utf8_items-divide rest) in
     utf8_items-unique bs _ _ (utf8_items-divide bs) (subst (λ xs. AreUtf8Items xs (map Char (str_chars (take n bs)) ++ utf8_items rest)) (take-append-drop n bs) items)
 
+-- The items of UTF-8 are its characters.
 pub utf8_items-text : (bs : List ℕ) → IsUtf8 bs → utf8_items bs ≡ map Char (str_chars bs)
 utf8_items-text bs text =
     let items = subst (λ xs. AreUtf8Items xs (map Char (str_chars bs))) (append-nil bs) (subst (λ is. AreUtf8Items (bs ++ []) is) (append-nil (map Char (str_chars bs))) (after_text bs [] [] text none)) in
     utf8_items-unique bs (utf8_items bs) (map Char (str_chars bs)) (utf8_items-divide bs) items
 
+-- The items of bytes with a prefix that is UTF-8, and a fault after it, are the characters of the prefix, the fault and
+-- the items of the other bytes.
 pub utf8_items-chunk : (bs : List ℕ) (n m : ℕ) → IsUtf8 (take n bs) → StartsWithNoChar (drop n bs) → 0 < length (drop n bs) → m ≡ utf8_invalid_len (drop n bs)
     → utf8_items bs ≡ map Char (str_chars (take n bs)) ++ Fault (slice_index bs n) ∷ utf8_items (drop (n + m) bs)
 utf8_items-chunk bs n m prefix unread some is =

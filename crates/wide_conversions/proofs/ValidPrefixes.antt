@@ -28,7 +28,7 @@ is_text c bs below no_surrogate is = subst (λ xs. IsUtf8 xs) (sym (utf8_bytes-e
 one : (d : ℕ) → d < 0x80 → IsUtf8 (d ∷ [])
 one d low = is_text d (d ∷ []) (omega arith) (λ from. omega arith) (one_byte d low)
 
--- The UTF-8 of a scalar value that was computed from the bytes (Table 3-6).
+-- The UTF-8 of a scalar value that was computed from two bytes is these bytes (Table 3-6).
 pub bytes-two : (d e : ℕ) → 0xC2 ≤ d → d < 0xE0 → 0x80 ≤ e → e < 0xC0 → utf8_bytes (d % 0x20 * 0x40 + e % 0x40) ≡ d ∷ e ∷ []
 bytes-two d e from to from_e to_e =
     let v = d % 0x20 * 0x40 + e % 0x40 in
@@ -39,6 +39,7 @@ bytes-two d e from to from_e to_e =
 two : (d e : ℕ) → 0xC2 ≤ d → d < 0xE0 → 0x80 ≤ e → e < 0xC0 → IsUtf8 (d ∷ e ∷ [])
 two d e from to from_e to_e = is_text (d % 0x20 * 0x40 + e % 0x40) (d ∷ e ∷ []) (omega arith) (λ high. omega arith) (bytes-two d e from to from_e to_e)
 
+-- The UTF-8 of a scalar value that was computed from three bytes is these bytes (Table 3-6).
 pub bytes-three : (d e f : ℕ) → 0xE0 ≤ d → d < 0xF0 → 0x80 ≤ e → e < 0xC0 → 0x80 ≤ f → f < 0xC0 → (d ≡ 0xE0 → 0xA0 ≤ e) → utf8_bytes (d % 0x10 * 0x1000 + e % 0x40 * 0x40 + f % 0x40) ≡ d ∷ e ∷ f ∷ []
 bytes-three d e f from to from_e to_e from_f to_f low =
     let v = d % 0x10 * 0x1000 + e % 0x40 * 0x40 + f % 0x40 in
@@ -51,6 +52,7 @@ three : (d e f : ℕ) → 0xE0 ≤ d → d < 0xF0 → 0x80 ≤ e → e < 0xC0 �
 three d e f from to from_e to_e from_f to_f low high =
     is_text (d % 0x10 * 0x1000 + e % 0x40 * 0x40 + f % 0x40) (d ∷ e ∷ f ∷ []) (omega arith) (λ surrogate. grind (arith, high)) (bytes-three d e f from to from_e to_e from_f to_f low)
 
+-- The UTF-8 of a scalar value that was computed from four bytes is these bytes (Table 3-6).
 pub bytes-four : (d e f g : ℕ) → 0xF0 ≤ d → d < 0xF5 → 0x80 ≤ e → e < 0xC0 → 0x80 ≤ f → f < 0xC0 → 0x80 ≤ g → g < 0xC0 → (d ≡ 0xF0 → 0x90 ≤ e)
     → utf8_bytes (d % 8 * 0x4_0000 + e % 0x40 * 0x1000 + f % 0x40 * 0x40 + g % 0x40) ≡ d ∷ e ∷ f ∷ g ∷ []
 bytes-four d e f g from to from_e to_e from_f to_f from_g to_g low =
@@ -188,6 +190,7 @@ ascii_follows a b c d la lb lc ld = record {
   four = (λ is. absurd (omega arith), λ is. absurd (omega arith));
 }
 
+-- If 128 more bytes are ASCII, all bytes up to there are.
 pub more_ascii : (bs : List ℕ) (len n : ℕ) → n ≡ 128 → ((k : ℕ) → k < len → get_or bs k 0 < 0x80) → ((k : ℕ) → k < 128 → get_or (take n (drop len bs)) k 0 < 0x80) → (k : ℕ) → k < len + 128 → get_or bs k 0 < 0x80
 more_ascii bs len n long before here k within = elim (cases_lt k len) [
   | inl early ↦ before k early
@@ -198,6 +201,7 @@ more_ascii bs len n long before here k within = elim (cases_lt k len) [
       )
 ]
 
+-- ASCII bytes after a block of ASCII may follow the bytes before them.
 pub ascii_following : (bs : List ℕ) (n m : ℕ) → ((k : ℕ) → k < 67 → get_or (take 67 bs) k 0 < 0x80) → ((k : ℕ) → k < n → get_or (take m (drop 67 bs)) k 0 < 0x80) → n ≤ m → Following (64 + n) bs
 ascii_following bs n m prefix back short k within = ascii_follows _ _ _ _ (low k (omega arith)) (low (k + 1) (omega arith)) (low (k + 2) (omega arith)) (low (k + 3) (omega arith))
   where
@@ -211,6 +215,7 @@ ascii_following bs n m prefix back short k within = ascii_follows _ _ _ _ (low k
           )
     ]
 
+-- If a block passes the check, its last 64 bytes may follow the bytes before them.
 pub block_following : (bs : List ℕ) → BlockFollows (take 67 bs) → Following 64 bs
 block_following bs ok k within =
     follow_as _ _ _ _ _ _ _ _ (get_or-take 67 bs k 0 (omega arith)) (get_or-take 67 bs (k + 1) 0 (omega arith)) (get_or-take 67 bs (k + 2) 0 (omega arith)) (get_or-take 67 bs (k + 3) 0 (omega arith)) (ok k within)
@@ -238,6 +243,7 @@ valid-beyond bs n v m is within prefix back =
       longest = λ k longer text. (let sum : n + (k - n) ≡ k = omega arith in valid.longest (k - n) (omega arith) (after_prefix bs n (k - n) prefix (subst (λ j. IsUtf8 (take j bs)) (sym sum) text)));
     }
 
+-- Bytes are UTF-8 if a prefix of them and the rest are.
 pub text-beyond : (bs : List ℕ) (n : ℕ) → IsUtf8 (take n bs) → IsUtf8 (Behind bs n) → IsUtf8 bs
 text-beyond bs n prefix back = subst (λ xs. IsUtf8 xs) (take-append-drop n bs) (IsUtf8-append (take n bs) (drop n bs) prefix (subst (λ xs. IsUtf8 xs) (take_rest bs n) back))
 

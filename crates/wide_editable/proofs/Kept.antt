@@ -10,7 +10,7 @@ use Rattle.wide_edit.specs.declared.edits.Edit.{Edit}
 use Rattle.wide_edit.specs.declared.edits.Edit.TheVariants.{Push, PushStr, Pop, Truncate, Insert, InsertStr, Remove, Retain, Drain, Replace, SplitOff, Clear}
 use Rattle.wide_editable.specs.Marked.{first_changed}
 
--- The index of an edit's first character lies within the text, and the characters before it are unchanged.
+-- The index of the first character that an edit can change is at most the number of characters.
 pub offset-within : (n : ℕ) (e : Edit) → first_changed n e ≤ n
 offset-within n (Push c) = omega arith
 offset-within n (PushStr t) = omega arith
@@ -26,9 +26,11 @@ offset-within n (SplitOff i) = omega arith
 offset-within n Clear = omega arith
 
 module _ (l : List ℕ) where
+  -- A splice changes no element before the spliced range.
   pub take-splice : (p i j : ℕ) (m : List ℕ) → p ≤ i → p ≤ length l → take p (splice l i j m) ≡ take p l
   take-splice p i j m le within = take-append-le p (take i l) (m ++ drop j l) (omega (arith, length-take i l)) ∙ take-take p i l le
 
+  -- An edit changes no character before the first one that it can change.
   pub step-keeps : (e : Edit) → take (first_changed (length l) e) (step l e).0 ≡ take (first_changed (length l) e) l
   step-keeps (Push c) = take-splice (length l) (length l) (length l) (c ∷ []) (omega arith) (omega arith)
   step-keeps (PushStr t) = take-splice (length l) (length l) (length l) (str_chars t.now) (omega arith) (omega arith)

@@ -85,12 +85,15 @@ module _ (l : List ℕ) where
   rejected-drain a b e = record { text = rw e refl; replied = rw e refl }
 
 module _ (l new : List ℕ) (t : Bor (List ℕ)) where
+  -- A text was appended.
   pub made-push_str : new ≡ l ++ chars t.now → IsMade l (PushStr t) new reply.Done
   made-push_str e = record { text = e ∙ sym (splice-end l (chars t.now)); replied = refl }
 
+  -- A text was inserted.
   pub made-insert_str : (i : ℕ) → i ≤ length l → new ≡ splice l i i (chars t.now) → IsMade l (InsertStr i t) new reply.Done
   made-insert_str i le e = record { text = rw (in_place i (length l) le) e; replied = rw (in_place i (length l) le) refl }
 
+  -- A range of characters was replaced by a text.
   pub made-replace : (a b : ℕ) → a ≤ b → b ≤ length l → new ≡ splice l a b (chars t.now) → IsMade l (Replace a b t) new reply.Done
   made-replace a b le within e = record { text = rw (in_range a b (length l) le within) e; replied = rw (in_range a b (length l) le within) refl }
 

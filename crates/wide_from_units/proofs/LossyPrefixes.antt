@@ -42,6 +42,7 @@ module _ {C : Type 0} (form : EncodingForm) (number : C → ℕ) where
       valid-items : items form (map number units) ≡ map Char (chars form (map number prefix)) ++ items form (map number back)
       valid-items = ap (items form) parts ∙ items-append_left form (map number prefix) (map number back) well ∙ ap (λ is. is ++ items form (map number back)) (chars-of_well_formed form (map number prefix) well)
 
+      -- The lossy text of units is the characters of their well-formed prefix, and the lossy text of the rest.
       pub valid-text : lossy_after policy after (items form (map number units)) ≡ chars form (map number prefix) ++ lossy_after policy now (items form (map number back))
       valid-text =
           let is = map Char (chars form (map number prefix)) in
@@ -49,6 +50,7 @@ module _ {C : Type 0} (form : EncodingForm) (number : C → ℕ) where
           ap (lossy_after policy after) valid-items ∙ lossy_after-append policy after is rest ∙ ap (λ t. t ++ lossy_after policy (ends_in_fault after is) rest) (lossy_after-chars policy after (chars form (map number prefix)))
           ∙ ap (λ b. chars form (map number prefix) ++ lossy_after policy b rest) (after_valid after now prefix well same other)
 
+      -- After a well-formed prefix, units end in a fault exactly if the rest does.
       pub valid-state : ends_in_fault after (items form (map number units)) ≡ ends_in_fault now (items form (map number back))
       valid-state =
           let rest = items form (map number back) in
@@ -56,6 +58,7 @@ module _ {C : Type 0} (form : EncodingForm) (number : C → ℕ) where
 
     -- A prefix that splits no pair can be repaired separately.
     module _ (cut : IsCut form (map number prefix) (map number back)) (is : now ≡ ends_in_fault after (items form (map number prefix))) where
+      -- The lossy text of units is that of a prefix that splits no pair, and that of the rest after it.
       pub repaired-text : (text : List ℕ) → text ≡ encode form (lossy_after policy after (items form (map number prefix))) → lossy_after policy after (items form (map number units)) ≡ chars form text ++ lossy_after policy now (items form (map number back))
       repaired-text text made =
           let first = items form (map number prefix) in
@@ -64,12 +67,14 @@ module _ {C : Type 0} (form : EncodingForm) (number : C → ℕ) where
           ∙ ap (λ b. lossy_after policy after first ++ lossy_after policy b rest) (sym is)
           ∙ ap (λ t. t ++ lossy_after policy now rest) (sym (chars-encode form (lossy_after policy after first) (scalars-lossy_after policy after form (map number prefix))) ∙ ap (chars form) (sym made))
 
+      -- Units end in a fault exactly if the rest after a prefix does, given whether the prefix ends in one.
       pub repaired-state : ends_in_fault after (items form (map number units)) ≡ ends_in_fault now (items form (map number back))
       repaired-state =
           let first = items form (map number prefix) in
           let rest = items form (map number back) in
           ap (λ us. ends_in_fault after (items form us)) parts ∙ ap (ends_in_fault after) (items-append form (map number prefix) (map number back) cut) ∙ ends_in_fault-append after first rest ∙ ap (λ b. ends_in_fault b rest) (sym is)
 
+  -- The encoding of lossy text is well formed.
   pub repaired-well_formed : (policy : Policy) (after : Bool) (us text : List ℕ) → text ≡ encode form (lossy_after policy after (items form us)) → IsWellFormed form text
   repaired-well_formed policy after us text made = rw made (IsWellFormed-encode form (lossy_after policy after (items form us)) (scalars-lossy_after policy after form us))
 
@@ -78,9 +83,10 @@ module _ {C : Type 0} (form : EncodingForm) (number : C → ℕ) where
   none-left policy after [] none = ap (lossy_after policy after) (items-nil form) ∙ lossy_after-none_left policy after
   none-left policy after (u ∷ us) none = absurd (omega arith)
 
-  -- When no units are left, all text was written, or counted.
+  -- When no units are left, all text was written.
   pub all-written : (policy : Policy) (after : Bool) (us : List C) (now all : List ℕ) → length us ≡ 0 → now ++ utf8 (lossy_after policy after (items form (map number us))) ≡ all → now ≡ all
   all-written policy after us now all none so_far = sym (append-nil now) ∙ ap (λ cs. now ++ utf8 cs) (sym (none-left policy after us none)) ∙ so_far
 
+  -- When no units are left, no text is left to count.
   pub all-counted : (policy : Policy) (after : Bool) (us : List C) → length us ≡ 0 → length (utf8 (lossy_after policy after (items form (map number us)))) ≡ 0
   all-counted policy after us none = ap (λ cs. length (utf8 cs)) (none-left policy after us none)

@@ -64,9 +64,11 @@ text-more cs s i n so_far more =
     let b = take n (drop i cs) in
     more ∙ ap (λ bs. bs ++ utf8 b) so_far ∙ append_assoc s (utf8 a) (utf8 b) ∙ ap (λ bs. s ++ bs) (sym (flat_map-append utf8_bytes a b)) ∙ ap (λ ds. s ++ utf8 ds) (sym (take-add i n cs))
 
+-- The UTF-8 of sixteen more scalar values.
 pub text-sixteen_more : (cs : List ℕ) (i n : ℕ) {t v : List ℕ} → n ≡ 16 → t ≡ utf8 (take i cs) → v ≡ t ++ utf8 (take n (drop i cs)) → v ≡ utf8 (take (i + 16) cs)
 text-sixteen_more cs i n {v} long so_far more = subst (λ m. v ≡ utf8 (take (i + m) cs)) long (text-more cs [] i n so_far more)
 
+-- The UTF-8 of one more scalar value.
 pub text-one_more : (cs s : List ℕ) (i : ℕ) {t v : List ℕ} → i < length cs → t ≡ s ++ utf8 (take i cs) → v ≡ t ++ utf8_bytes (get_or cs i 0) → v ≡ s ++ utf8 (take (i + 1) cs)
 text-one_more cs s i {t} within so_far more =
     let one : utf8_bytes (get_or cs i 0) ≡ utf8 (take 1 (drop i cs)) = sym (ap (λ ds. utf8 (take 1 ds)) (drop-cons cs i 0 within) ∙ append-nil (utf8_bytes (get_or cs i 0))) in

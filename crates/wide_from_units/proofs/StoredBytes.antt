@@ -27,12 +27,14 @@ next-unit f width us old xs ys bytes k some before is stored compressed =
     }
 
 module _ (f : ℕ → List ℕ) (us old xs : List ℕ) (k : ℕ) (some : k < length us) where
+  -- If the two bytes of one more unit are stored, the bytes of one unit more are stored.
   pub stored-two : (a b : ℕ) → 2 * length us ≤ length xs → AreStored f 2 us old xs k → a ∷ b ∷ [] ≡ f (get_or us k 0) → AreStored f 2 us old (set (set xs (2 * k) a) (2 * k + 1) b) (k + 1)
   stored-two a b space before is =
       let at = 2 * k in
       let compressed = drop-set-lt (at + 2) (set xs at a) (at + 1) b (omega arith) ∙ drop-set-lt (at + 2) xs at a (omega arith) in
       next-unit f 2 us old xs (set (set xs at a) (at + 1) b) (a ∷ b ∷ []) k some before is (stored_two xs at a b (omega arith)) compressed
 
+  -- If the four bytes of one more unit are stored, the bytes of one unit more are stored.
   pub stored-four : (a b d e : ℕ) → 4 * length us ≤ length xs → AreStored f 4 us old xs k → a ∷ b ∷ d ∷ e ∷ [] ≡ f (get_or us k 0)
       → AreStored f 4 us old (set (set (set (set xs (4 * k) a) (4 * k + 1) b) (4 * k + 2) d) (4 * k + 3) e) (k + 1)
   stored-four a b d e space before is =

@@ -66,6 +66,7 @@ module _ (bs : List ℕ) (text : IsUtf8 bs) (some : 0 < length bs) where
   byte : {xs : List ℕ} → bs ≡ xs → (k : ℕ) → get_or bs k 0 ≡ get_or xs k 0
   byte same k = ap (λ ys. get_or ys k 0) same
 
+  -- A character of one byte is the byte.
   pub in_one : get_or bs 0 0 < 0x80 → IsScalar (get_or bs 0 0) × StartsWithChar bs (get_or bs 0 0) 1
   in_one low = by (shape bs text some)
     where
@@ -75,6 +76,7 @@ module _ (bs : List ℕ) (text : IsUtf8 bs) (some : 0 < length bs) where
       by (three c rest scalar tail from below same) = absurd (omega (arith, byte same 0, low))
       by (four c rest scalar tail from below same) = absurd (omega (arith, byte same 0, low))
 
+  -- A character of two bytes is computed from them.
   pub in_two : 0x80 ≤ get_or bs 0 0 → get_or bs 0 0 < 0xE0 → let v : ℕ = get_or bs 0 0 % 0x20 * 0x40 + get_or bs 1 0 % 0x40 in IsScalar v × StartsWithChar bs v 2
   in_two high low = by (shape bs text some)
     where
@@ -84,6 +86,7 @@ module _ (bs : List ℕ) (text : IsUtf8 bs) (some : 0 < length bs) where
       by (three c rest scalar tail from below same) = absurd (omega (arith, byte same 0, low))
       by (four c rest scalar tail from below same) = absurd (omega (arith, byte same 0, low))
 
+  -- A character of three bytes is computed from them.
   pub in_three : 0xE0 ≤ get_or bs 0 0 → get_or bs 0 0 < 0xF0 → let v : ℕ = get_or bs 0 0 % 0x10 * 0x1000 + get_or bs 1 0 % 0x40 * 0x40 + get_or bs 2 0 % 0x40 in IsScalar v × StartsWithChar bs v 3
   in_three high low = by (shape bs text some)
     where

@@ -21,9 +21,11 @@ pub beyond-is : {X : Type 0} (xs : List X) (n : ℕ) → take (length xs - n) (d
 beyond-is xs n = take_all (length xs - n) (drop n xs) (omega (arith, length-drop n xs))
 
 module _ (form : EncodingForm) where
+  -- The empty prefix has no units.
   pub prefix_units-none : (bs : List ℕ) → IsUtf8 bs → IsPrefixUnits form bs 0 []
   prefix_units-none bs text = record { units = refl; rest = text }
 
+  -- The units of a prefix, and those of a prefix of the rest, are the units of both.
   pub prefix_units-then : (bs us vs ws : List ℕ) (n m : ℕ) → IsPrefixUnits form bs n us → IsPrefixUnits form (drop n bs) m vs → ws ≡ us ++ vs → IsPrefixUnits form bs (n + m) ws
   prefix_units-then bs us vs ws n m prefix back joined =
       let beyond : drop m (drop n bs) ≡ drop (n + m) bs = drop-drop m n bs in
@@ -32,6 +34,7 @@ module _ (form : EncodingForm) where
         rest = subst (λ ds. IsUtf8 ds) beyond back.rest;
       }
 
+  -- The units of the first character are those of a prefix.
   pub prefix_units-char : (bs : List ℕ) (c n : ℕ) → IsUtf8 bs → StartsWithChar bs c n → IsPrefixUnits form bs n (code_units form c)
   prefix_units-char bs c n text first = record { units = ap (λ cs. encode form cs) (chars_past_char bs (drop n bs) c text first.0); rest = first.4 }
 
@@ -73,12 +76,15 @@ module _ (form : EncodingForm) where
       let rest = encode form (str_chars (drop n bs)) in
       record { units = ap (λ vs. before ++ vs) prefix.units ∙ sym (append_assoc before us rest) ∙ ap (λ vs. vs ++ rest) (sym more); rest = prefix.rest }
 
+  -- Decoding nothing appends nothing.
   pub decoded-none : (bs before : List ℕ) → IsUtf8 bs → IsDecoded form bs 0 before before
   decoded-none bs before text = record { units = refl; rest = text }
 
+  -- The rest after a decoded prefix is UTF-8.
   pub decoded-beyond : (bs x y : List ℕ) (n : ℕ) → IsDecoded form bs n x y → IsUtf8 (take (length bs - n) (drop n bs))
   decoded-beyond bs x y n prefix = subst (λ ds. IsUtf8 ds) (sym (beyond-is bs n)) prefix.rest
 
+  -- If a prefix is decoded, and then a prefix of the rest, both are decoded.
   pub decoded-then : (bs x y z : List ℕ) (n m : ℕ) → IsDecoded form bs n x y → IsDecoded form (take (length bs - n) (drop n bs)) m y z → IsDecoded form bs (n + m) x z
   decoded-then bs x y z n m prefix back =
       let beyond = beyond-is bs n in
@@ -88,10 +94,11 @@ module _ (form : EncodingForm) where
         rest = subst (λ ds. IsUtf8 ds) rest back.rest;
       }
 
-  -- The units of one character, or of some ASCII characters, at the beginning of text.
+  -- The first character of text is decoded.
   pub decoded-char : (bs before after : List ℕ) (c n : ℕ) → IsUtf8 bs → StartsWithChar bs c n → after ≡ before ++ code_units form c → IsDecoded form bs n before after
   decoded-char bs before after c n text first more = joined bs before after (code_units form c) n more (prefix_units-char bs c n text first)
 
+  -- Some ASCII characters at the beginning of text are decoded.
   pub decoded-ascii : (bs before after : List ℕ) (n : ℕ) → IsUtf8 bs → n ≤ length bs → ((k : ℕ) → k < n → get_or bs k 0 < 0x80) → after ≡ before ++ take n bs → IsDecoded form bs n before after
   decoded-ascii bs before after n text within ascii more = joined bs before after (take n bs) n more (prefix_units-ascii n bs text within ascii)
 

@@ -47,6 +47,7 @@ module _ {D E : Type 0} (steps : D → Option (Result ℕ E) → D → Type 0) (
     pub at : (number : E → ℕ) (rest : D → List Item) → GivesLastItem steps number rest → (run : List ℕ) × (left_in_source rest s ≡ left_in_source rest t ++ map Fault run)
 
 module _ {D E : Type 0} {steps : D → Option (Result ℕ E) → D → Type 0} (s t u : Source D) where
+  -- After one more fault was read from the front, a run of faults was.
   pub passed_first : PassedFirst steps s t → (e : E) → source_steps steps t (Some (Err e)) u → PassedFirst steps s u
   passed_first p e h = record {
     at = λ number rest reports.
@@ -54,6 +55,7 @@ module _ {D E : Type 0} {steps : D → Option (Result ℕ E) → D → Type 0} (
         (q.0 ++ number e ∷ [], q.1 ∙ ap (λ l. map Fault q.0 ++ l) (item_first number rest reports t u (Some (Err e)) h) ∙ sym (append_assoc (map Fault q.0) (Fault (number e) ∷ []) (left_in_source rest u)) ∙ ap (λ l. l ++ left_in_source rest u) (sym (map-append Fault q.0 (number e ∷ []))));
   }
 
+  -- A run of faults was read from the front, and then a character.
   pub took_first : PassedFirst steps s t → (c : ℕ) → source_steps steps t (Some (Ok c)) u → TakesFirstCharacter steps s (Some c) u
   took_first p c h = record {
     at = λ number rest reports.
@@ -61,6 +63,7 @@ module _ {D E : Type 0} {steps : D → Option (Result ℕ E) → D → Type 0} (
         (q.0, q.1 ∙ ap (λ l. map Fault q.0 ++ l) (item_first number rest reports t u (Some (Ok c)) h));
   }
 
+  -- A run of faults was read from the front, and then the end.
   pub none_first : PassedFirst steps s t → source_steps steps t None u → TakesFirstCharacter steps s None u
   none_first p h = record {
     at = λ number rest reports.
@@ -69,6 +72,7 @@ module _ {D E : Type 0} {steps : D → Option (Result ℕ E) → D → Type 0} (
         (q.0, (q.1 ∙ ap (λ l. map Fault q.0 ++ l) none.0 ∙ append-nil (map Fault q.0), none.1));
   }
 
+  -- After one more fault was read from the back, a run of faults was.
   pub passed_last : PassedLast steps s t → (e : E) → source_steps steps t (Some (Err e)) u → PassedLast steps s u
   passed_last p e h = record {
     at = λ number rest reports.
@@ -76,6 +80,7 @@ module _ {D E : Type 0} {steps : D → Option (Result ℕ E) → D → Type 0} (
         (number e ∷ q.0, q.1 ∙ ap (λ l. l ++ map Fault q.0) (item_last number rest reports t u (Some (Err e)) h) ∙ append_assoc (left_in_source rest u) (Fault (number e) ∷ []) (map Fault q.0));
   }
 
+  -- A run of faults was read from the back, and then a character.
   pub took_last : PassedLast steps s t → (c : ℕ) → source_steps steps t (Some (Ok c)) u → TakesLastCharacter steps s (Some c) u
   took_last p c h = record {
     at = λ number rest reports.

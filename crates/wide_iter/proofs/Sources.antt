@@ -31,10 +31,11 @@ module _ {A : Type 0} where
   copied_gives_last = record { at = λ s r t f h. subst (λ v. YieldsLast copied_rest s v t) (sym h.2) (copied_last s t h.0 h.1) }
 
 module _ {S A : Type 0} (rest : S → List A) where
-  -- An iterator whose contract says what is left is a source of that list.
+  -- An iterator whose contract says what is left is a source of that list, from the front.
   pub itself_first : {Fits : A → Type 0} → GivesFirst Fits (YieldsFirst rest) rest
   itself_first = record { at = λ s r t f h. h }
 
+  -- An iterator whose contract says what is left is a source of that list, from the back.
   pub itself_last : {Fits : A → Type 0} → GivesLast Fits (YieldsLast rest) rest
   itself_last = record { at = λ s r t f h. h }
 
@@ -48,9 +49,11 @@ module _ {A Z : Type 0} where
   vec_last s t None h = (nil_from_length (into_iter_items s) (omega arith), nil_from_length (into_iter_items t) (omega arith))
   vec_last s t (Some x) h = h
 
+  -- A `Vec` by value is a source of its elements, from the front.
   pub vec_gives_first : {Fits : A → Type 0} → GivesFirst Fits (into_iter_steps {X = A} {Z = Z}) into_iter_items
   vec_gives_first = record { at = λ s r t f h. vec_first s t r h }
 
+  -- A `Vec` by value is a source of its elements, from the back.
   pub vec_gives_last : {Fits : A → Type 0} → GivesLast Fits (into_iter_steps_back {X = A} {Z = Z}) into_iter_items
   vec_gives_last = record { at = λ s r t f h. vec_last s t r h }
 

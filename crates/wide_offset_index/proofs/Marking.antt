@@ -21,6 +21,7 @@ pub record GoesOn (cs : List ℕ) (read c : ℕ) (rest : List ℕ) : Type 0 wher
   pub left : rest ≡ drop (read + 1) cs
   pub at : size Utf16 (take (read + 1) cs) ≡ size Utf16 (take read cs) + length (code_units Utf16 c)
 
+-- The first of the characters that are left is read.
 pub next_char : (cs : List ℕ) (read c : ℕ) (rest : List ℕ) → drop read cs ≡ c ∷ rest → GoesOn cs read c rest
 next_char cs read c rest e =
     let lt : read < length cs = omega (arith, ap length e, length-drop read cs) in
@@ -36,12 +37,15 @@ next_char cs read c rest e =
 pub some-length : (cs : List ℕ) (ms : List ℕ) → ms ≡ take (length ms) (index_entries cs) → length ms ≤ length cs / 64
 some-length cs ms e = omega (arith, ap length e, length-take (length ms) (index_entries cs), length-map-range_with_len (index_entry cs) 1 (length cs / 64))
 
+-- The entries are those with the numbers 1, 2 and so on.
 pub some-marks : (cs : List ℕ) (ms : List ℕ) → ms ≡ take (length ms) (index_entries cs) → ms ≡ map (index_entry cs) (range_with_len 1 (length ms))
 some-marks cs ms e = e ∙ take-map-range_with_len (index_entry cs) 1 (length cs / 64) (length ms) (some-length cs ms e)
 
+-- The entry at an index is the one with the next number.
 pub index_entry-at : (cs : List ℕ) (ms : List ℕ) (k j d : ℕ) → ms ≡ take (length ms) (index_entries cs) → k < length ms → 1 + k ≡ j → get_or ms k d ≡ index_entry cs j
 index_entry-at cs ms k j d e lt is = ap (λ xs. get_or xs k d) (some-marks cs ms e) ∙ get_or-map-range_with_len (index_entry cs) 1 (length ms) k j d lt is
 
+-- All entries of the index are its first entries.
 pub all-some : (cs ms : List ℕ) → ms ≡ index_entries cs → ms ≡ take (length ms) (index_entries cs)
 all-some cs ms e = e ∙ sym (take_all (length ms) (index_entries cs) (omega (arith, ap length e)))
 
@@ -59,6 +63,7 @@ module _ (us : List ℕ) (well : IsWellFormed Utf16 us) where
   pub goes-within : (read c at len : ℕ) (rest : List ℕ) → GoesOn cs read c rest → at ≡ size Utf16 (take read cs) → len ≡ length (code_units Utf16 c) → at + len ≤ length us
   goes-within read c at len rest goes is long = omega (arith, goes.at, size-take Utf16 cs (read + 1), whole-size)
 
+  -- The length in units of the first characters is a character boundary.
   pub char-boundary : (i : ℕ) → IsCharBoundary Utf16 us (size Utf16 (take i cs))
   char-boundary i = IsCharBoundary-of Utf16 us (size Utf16 (take i cs)) well (IsOffsetOf-prefix Utf16 us well i).boundary
 

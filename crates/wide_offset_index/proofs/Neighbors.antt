@@ -60,7 +60,7 @@ module _ (us : List ℕ) (well : IsWellFormed Utf16 us) where
     abbrev two : AreApart cs p (p + 1)
     two = apart cs p (p + 1) (omega arith) (omega (arith, within))
 
-    -- The next character begins one unit further on if that is a boundary, else two.
+    -- The next character begins one unit further on if that is a boundary.
     pub next-near : (at : ℕ) → at ≡ offset cs p → IsCharBoundary Utf16 us (at + 1) → offset cs (p + 1) ≡ at + 1
     next-near at here next =
         let q = index-at (at + 1) next in
@@ -69,13 +69,14 @@ module _ (us : List ℕ) (well : IsWellFormed Utf16 us) where
           | inr before ↦ absurd (omega (arith, here, q.2, (apart cs (q.0) p before (omega (arith, within))).least))
         ]
 
+    -- The next character begins two units further on if one unit further on is no boundary.
     pub next-far : (at : ℕ) → at ≡ offset cs p → (IsCharBoundary Utf16 us (at + 1) → ⊥) → offset cs (p + 1) ≡ at + 2
     next-far at here never = elim (cases_lt (at + 1) (offset cs (p + 1))) [
       | inl far ↦ omega (arith, two.most, here, far)
       | inr near ↦ let same : offset cs (p + 1) ≡ at + 1 = omega (arith, two.least, here, near) in absurd (never (subst (IsCharBoundary Utf16 us) same (char-boundary us well (p + 1))))
     ]
 
-    -- The character before begins one unit before if that is a boundary, else two.
+    -- The character before begins one unit before if that is a boundary.
     pub previous-near : (at : ℕ) → at ≡ offset cs (p + 1) → IsCharBoundary Utf16 us (at - 1) → offset cs p + 1 ≡ at
     previous-near at here before =
         let q = index-at (at - 1) before in
@@ -84,6 +85,7 @@ module _ (us : List ℕ) (well : IsWellFormed Utf16 us) where
           | inr back ↦ omega (arith, two.least, here, q.2, (apart cs (q.0) p back (omega (arith, within))).least)
         ]
 
+    -- The character before begins two units before if one unit before is no boundary.
     pub previous-far : (at : ℕ) → at ≡ offset cs (p + 1) → (IsCharBoundary Utf16 us (at - 1) → ⊥) → offset cs p + 2 ≡ at
     previous-far at here never = elim (cases_lt (offset cs p + 1) at) [
       | inl far ↦ omega (arith, two.most, here, far)

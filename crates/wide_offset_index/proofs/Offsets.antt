@@ -29,12 +29,14 @@ module _ (form : EncodingForm) (us : List ℕ) (i : ℕ) where
     pub offset : IsOffsetOf form us i at
     pub boundary : IsCharBoundary form us at
 
+  -- A search that found an offset says that it is the offset of the character.
   pub found_some : (r : Option ℕ) (at : ℕ) → IsFoundAt form us i r → r ≡ Some at → Found at
   found_some (Some a) at found e =
       let same : a ≡ at = cc in
       record { within = found.some.0 refl; offset = subst (IsOffsetOf form us i) same found.offset; boundary = subst (IsCharBoundary form us) same found.boundary }
   found_some None at found e = absurd cc
 
+  -- A search that found none says that the index is past the end.
   pub found_none : (r : Option ℕ) → IsFoundAt form us i r → r ≡ None → i ≤ length (chars form us) → ⊥
   found_none (Some a) found e le = absurd cc
   found_none None found e le = let f = found.some.1 le in absurd cc
@@ -47,6 +49,7 @@ module _ {X : Type 0} (form : EncodingForm) (number : X → ℕ) (xs : List X) (
   abbrev us : List ℕ
   us = map number xs
 
+  -- The offset of a later character is no smaller.
   pub range-forward : (i j a b : ℕ) → i ≤ j → IsOffsetOf form us i a → IsOffsetOf form us j b → a ≤ b
   range-forward i j a b le p q = omega (arith, offset-IsOffsetOf form us well i a p, offset-IsOffsetOf form us well j b q, offsets-grow form (chars form us) i j le)
 

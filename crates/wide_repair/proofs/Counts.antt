@@ -29,6 +29,7 @@ block_at n (suc k) (suc i) xs d l =
     h ∙ ap (take n) e
 
 module _ (p : ℕ → Bool) (n : ℕ) (us : List ℕ) (blocks : List (List ℕ)) (prefix : blocks ≡ first_chunks n (length us / n) us) (count : length blocks ≡ length us / n) where
+  -- What is counted up to the end of a block is what is counted before it and in it.
   pub count-block : (i : ℕ) (d : List ℕ) (so_far found : ℕ) → i < length blocks → so_far ≡ count_by p (take (i * n) us) → found ≡ count_by p (get_or blocks i d) → so_far + found ≡ count_by p (take ((i + 1) * n) us)
   count-block i d so_far found l before here =
       let block : get_or blocks i d ≡ take n (drop (i * n) us) = ap (λ bs. get_or bs i d) prefix ∙ block_at n (length us / n) i us d (omega (arith, count, l)) in
@@ -43,5 +44,6 @@ module _ (p : ℕ → Bool) (n : ℕ) (us : List ℕ) (blocks : List (List ℕ))
         ap (λ m. count_by p (take m us)) next,
       )
 
+  -- What is counted in a list is what is counted in a prefix and in the rest.
   pub count-all : (m : ℕ) (back : List ℕ) → back ≡ drop m us → count_by p (take m us) + count_by p back ≡ count_by p us
   count-all m back e = ap (λ vs. count_by p (take m us) + count_by p vs) e ∙ sum_by-take-drop (λ u. cond (p u) 1 0) us m

@@ -87,7 +87,7 @@ module _ (after : Bool) (us : List ℕ) (q : ℕ) (long : length us ≡ suc q) w
     ]
   ]
 
-  -- The last unit is a fault if it is a surrogate and not the second of a pair.
+  -- The last unit is a fault exactly if it is a surrogate, provided that it is not the second of a pair.
   pub ends-alone : unit < 2 ^ 16 → (0 < q → (is_high (get_or us (q - 1) 0) ≡ false) ⊎ (is_low unit ≡ false)) → is_surrogate unit ≡ ends_in_fault after (items Utf16 us)
   ends-alone below apart = elim kinds [
     | inl high ↦ (let is : is_surrogate unit ≡ true = grind (arith, high) in is ∙ ends-high high)
@@ -95,6 +95,7 @@ module _ (after : Bool) (us : List ℕ) (q : ℕ) (long : length us ≡ suc q) w
     | inr (inr plain) ↦ plain ∙ ends-plain below plain
   ]
 
+  -- The last unit is no fault if it is the second of a pair.
   pub ends-pair : 0 < q → is_high (get_or us (q - 1) 0) ≡ true → is_low unit ≡ true → false ≡ ends_in_fault after (items Utf16 us)
   ends-pair some high low =
       let n : ℕ = q - 1 in

@@ -22,6 +22,7 @@ put-beyond xs ys at n k within few =
     let first : length (take at xs) ≡ at = length-take-le at xs within in
     ap (λ m. take (m + n) (put_mid at k xs ys)) (sym first) ∙ take-append-add (take at xs) (ys ++ post_of at k xs) n ∙ ap (λ zs. take at xs ++ zs) (take-append-le n ys (post_of at k xs) few)
 
+-- Writing into a list leaves its length unchanged.
 pub put-length : (xs ys : List ℕ) (at k : ℕ) → at + k ≡ length xs → length ys ≡ k → length (put_mid at k xs ys) ≡ length xs
 put-length xs ys at k within long =
     let beyond : length (post_of at k xs) ≡ length (drop at xs) - k = length-drop k (drop at xs) in

@@ -51,11 +51,12 @@ module _ (policy : Policy) (after : Bool) (u : ℕ) (us : List ℕ) where
     | inr isnt ↦ rw (isnt, same u) (ap (ends_in_fault after) (items32-char u us (scalar u isnt)))
   ]
 
--- What was written and whether a fault was read last, after one more unit.
+-- Whether a fault was read last, after one more unit.
 pub state-passed : (policy : Policy) (after was : Bool) (us : List ℕ) (k : ℕ) → k < length us → ends_in_fault after (items Utf32 us) ≡ ends_in_fault was (items Utf32 (drop k us))
     → ends_in_fault after (items Utf32 us) ≡ ends_in_fault (not (eqb (repaired_scalar (get_or us k 0)) (get_or us k 0))) (items Utf32 (drop (k + 1) us))
 state-passed policy after was us k within so_far = so_far ∙ ap (λ us. ends_in_fault was (items Utf32 us)) (drop_more us k 0 within) ∙ unit-state policy was (get_or us k 0) (drop (k + 1) us)
 
+-- What was written, after one more unit.
 pub unit-passed : (policy : Policy) (after was : Bool) (us before now : List ℕ) (k : ℕ) → k < length us → lossy_after policy after (items Utf32 us) ≡ before ++ lossy_after policy was (items Utf32 (drop k us))
     → now ≡ before ++ written policy was (get_or us k 0) → lossy_after policy after (items Utf32 us) ≡ now ++ lossy_after policy (not (eqb (repaired_scalar (get_or us k 0)) (get_or us k 0))) (items Utf32 (drop (k + 1) us))
 unit-passed policy after was us before now k within so_far put =
@@ -64,10 +65,11 @@ unit-passed policy after was us before now k within so_far put =
     so_far ∙ ap (λ us. before ++ lossy_after policy was (items Utf32 us)) (drop_more us k 0 within) ∙ ap (λ cs. before ++ cs) (unit-written policy was u (drop (k + 1) us))
     ∙ sym (append_assoc before (written policy was u) rest) ∙ ap (λ cs. cs ++ rest) (sym put)
 
--- What was written and whether a fault was read last, after all units.
+-- Whether a fault was read last, after all units.
 pub all-states : (after was : Bool) (us : List ℕ) (k : ℕ) → length us ≤ k → ends_in_fault after (items Utf32 us) ≡ ends_in_fault was (items Utf32 (drop k us)) → was ≡ ends_in_fault after (items Utf32 us)
 all-states after was us k all so_far = sym (so_far ∙ ap (λ us. ends_in_fault was (items Utf32 us)) (drop_all k us all) ∙ ap (ends_in_fault was) (items-nil Utf32))
 
+-- What was written, after all units.
 pub all-passed : (policy : Policy) (after was : Bool) (us now : List ℕ) (k : ℕ) → length us ≤ k → lossy_after policy after (items Utf32 us) ≡ now ++ lossy_after policy was (items Utf32 (drop k us)) → now ≡ encode Utf32 (lossy_after policy after (items Utf32 us))
 all-passed policy after was us now k all so_far =
     let none : lossy_after policy was (items Utf32 (drop k us)) ≡ [] = ap (λ us. lossy_after policy was (items Utf32 us)) (drop_all k us all) ∙ ap (lossy_after policy was) (items-nil Utf32) ∙ lossy_after-none_left policy was in

@@ -61,6 +61,7 @@ joined-all (suc count) with needle [] few = refl
 joined-all (suc count) with needle (part ∷ []) few = refl
 joined-all (suc count) with needle (part ∷ next ∷ more) few = ap (λ us. part ++ (with ++ us)) (joined-all count with needle (next ∷ more) (omega (arith, few)))
 
+-- If as many occurrences are replaced as there are elements, all are.
 pub all_replaced : (with needle whole : List ℕ) (count : ℕ) → length whole ≤ count → joined_first count with needle (substrings needle whole) ≡ joined_with with (substrings needle whole)
 all_replaced with needle whole count enough = joined-all count with needle (substrings needle whole) (omega (arith, enough, substrings-at_most needle whole))
 

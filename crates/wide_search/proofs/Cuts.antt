@@ -79,6 +79,7 @@ module _ (lt gt : ℕ → ℕ → Type 0) (irreflexive : (a : ℕ) → lt a a �
         ])
   ]
 
+  -- Where the later greatest suffix begins, the needle has a factorization.
   pub cut-there : (parts : Factorization) → parts.cut ≡ l → parts.period ≡ p → IsTrue parts.repeats ↔ IsRepeat x m parts.cut parts.period → IsFactorization x m parts
   cut-there parts at by repeats = record {
     below = omega (arith, at, is.some, is.fits);

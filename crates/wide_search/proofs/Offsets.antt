@@ -24,16 +24,19 @@ module _ {A : Type 0} where
         is ∙ ap (λ n. drop n us) at ∙ ap (λ xs. drop (length ends.0) xs) ends.1 ∙ drop-append_seam ends.0 needle),
   )
 
-  -- The units neither begin nor end with a longer pattern.
+  -- Units do not begin with a longer needle.
   pub longer-begins : (needle us : List A) → length us < length needle → ¬ (BeginsWith needle us)
   longer-begins needle us long begins = omega (arith, long, ap length begins.1, length-append needle begins.0)
 
+  -- Units do not end with a longer needle.
   pub longer-ends : (needle us : List A) → length us < length needle → ¬ (EndsWith needle us)
   longer-ends needle us long ends = omega (arith, long, ap length ends.1, length-append ends.0 needle)
 
+  -- A longer needle occurs nowhere in units.
   pub longer-nowhere : (needle us : List A) → length us < length needle → OccursNowhere needle us
   longer-nowhere needle us long at occurs = omega (arith, long, occurs.within)
 
+-- A needle of one unit or two begins with the first.
 pub few-first : {C : Type 0} (first : C) (second : Option C) → (rest : List C) × (first_and first second ≡ first ∷ rest)
 few-first first None = ([], refl)
 few-first first (Some u) = (u ∷ [], refl)
@@ -69,6 +72,7 @@ module _ {X : Type 0} (number : X → ℕ) where
         none-passed needle us rest u at (length us) (offset - at) e (subst (All (λ x. number x ≢ number u)) (sym whole) none) (omega (arith, occurs.within, some)) (subst (λ n. OccursAt needle us n) same occurs))
   ]
 
+  -- If the first unit of the needle does not occur in the next `n` units, the needle occurs at none of their offsets.
   pub none-before : (needle us rest : List X) (u : X) (at n : ℕ) → needle ≡ u ∷ rest → All (λ x. number x ≢ number u) (take n (drop at us)) → ((earlier : ℕ) → earlier < at → ¬ (OccursAt needle us earlier)) → (offset : ℕ) → offset < at + n → ¬ (OccursAt needle us offset)
   none-before needle us rest u at n e none before offset l occurs = elim (cases_lt offset at) [
     | inl earlier ↦ before offset earlier occurs
@@ -81,6 +85,7 @@ module _ {X : Type 0} (number : X → ℕ) where
     pub none-reported : All (λ x. number x ≢ v) left → OccursNowhere needle us
     none-reported all = none-left needle us tail u at e (subst (λ n. All (λ x. number x ≢ n) (drop at us)) code (subst (All (λ x. number x ≢ v)) rest all)) before
 
+    -- If the number of its first unit does not occur in the next `n` units, the needle occurs at none of their offsets.
     pub before-reported : (n : ℕ) → All (λ x. number x ≢ v) (take n left) → (offset : ℕ) → offset < at + n → ¬ (OccursAt needle us offset)
     before-reported n all = none-before needle us tail u at n e (subst (λ m. All (λ x. number x ≢ m) (take n (drop at us))) code (subst (λ xs. All (λ x. number x ≢ v) (take n xs)) rest all)) before
 
@@ -91,19 +96,21 @@ module _ {X : Type 0} (number : X → ℕ) where
   first-alike same u rest (x ∷ xs) zero l is = ap (λ y. y ∷ []) (same u x (sym is))
   first-alike same u rest (x ∷ xs) (suc n) l is = first-alike same u rest xs n (omega (arith, l)) is
 
-  -- An occurrence at the beginning of what two splits leave is one in the whole, and the other way round.
+  -- An occurrence at the beginning of what two splits leave is one in the whole.
   pub occurs-cut : (needle us : List X) (at n : ℕ) → at + n ≤ length us → OccursAt needle (drop n (drop at us)) 0 → OccursAt needle us (at + n)
   occurs-cut needle us at n within occurs =
       let once : OccursAt needle (drop at us) (n + 0) = occurs-beyond needle (drop at us) n 0 (omega (arith, within, length-drop at us)) occurs in
       let none : n + 0 ≡ n = omega arith in
       occurs-beyond needle us at n (omega (arith, within)) (subst (λ k. OccursAt needle (drop at us) k) none once)
 
+  -- An occurrence in the whole is one at the beginning of what two splits at its offset leave.
   pub cut-occurs : (needle us : List X) (at n : ℕ) → OccursAt needle us (at + n) → OccursAt needle (drop n (drop at us)) 0
   cut-occurs needle us at n occurs =
       let once : OccursAt needle (drop at us) n = occurs-left needle us at n occurs in
       let none : n ≡ n + 0 = omega arith in
       occurs-left needle (drop at us) n 0 (subst (λ k. OccursAt needle (drop at us) k) none once)
 
+  -- If a needle occurs at no offset before one, and not there, it occurs at none up to there.
   pub none-through : (needle us : List X) (at n : ℕ) → ((offset : ℕ) → offset < at + n → ¬ (OccursAt needle us offset)) → ¬ (OccursAt needle us (at + n)) → (offset : ℕ) → offset < at + (n + 1) → ¬ (OccursAt needle us offset)
   none-through needle us at n before here offset l occurs = elim (cases_lt offset (at + n)) [
     | inl earlier ↦ before offset earlier occurs

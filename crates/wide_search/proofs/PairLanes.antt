@@ -34,9 +34,11 @@ lowest bs long some =
     let h = trailing_mask_l (λ (b : Bool). b) 64 bs long (subst (λ cs. 0 < mask_l cs) (sym same) some) in
     subst (λ cs. count_trailing_zeros 64 (mask_l cs) ≡ prefix_len (λ b. not b) bs) same h
 
+-- The lowest bit that is set is one of the bits.
 pub lowest-within : (bs : List Bool) → length bs ≤ 64 → 0 < mask_l bs → count_trailing_zeros 64 (mask_l bs) ≤ length bs
 lowest-within bs long some = let e = lowest bs long some in let h = prefix_len-le-length (λ b. not b) bs in omega (arith, e, h)
 
+-- No bit below the lowest one that is set is set.
 pub unset_below : (bs : List Bool) → length bs ≤ 64 → 0 < mask_l bs → (k : ℕ) → k < count_trailing_zeros 64 (mask_l bs) → get_or bs k false ≡ false
 unset_below bs long some k l = not_true _ (prefix_len_passes (λ b. not b) bs k false (let e = lowest bs long some in omega (arith, e, l)))
 

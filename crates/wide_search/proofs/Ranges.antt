@@ -15,6 +15,8 @@ module _ (P : ℕ → Type 0) where
     | inr later ↦ (let e : k ≡ at + (k - at) = omega (arith, later) in next (k - at) (omega (arith, l, later)) (subst P e holds))
   ]
 
+  -- If a property holds at no index before `at`, and at none from there to before `start`, it holds at none before
+  -- `start`.
   pub none-until : (at start : ℕ) → ((k : ℕ) → k < at → ¬ (P k)) → ((k : ℕ) → at ≤ k → k < start → ¬ (P k)) → (k : ℕ) → k < start → ¬ (P k)
   none-until at start before next k l holds = elim (cases_lt k at) [
     | inl earlier ↦ before k earlier holds
@@ -29,12 +31,14 @@ module _ (P : ℕ → Type 0) where
     | inr above ↦ beyond k above l holds
   ]
 
+  -- If a property holds at no index before `at`, and not at `at`, it holds at none up to `at`.
   pub none-more : (at : ℕ) → ((k : ℕ) → k < at → ¬ (P k)) → ¬ (P at) → (k : ℕ) → k < at + 1 → ¬ (P k)
   none-more at before here k l holds = elim (cases_lt k at) [
     | inl earlier ↦ before k earlier holds
     | inr later ↦ (let e : k ≡ at = omega (arith, l, later) in here (subst P e holds))
   ]
 
+  -- If a property holds at no index from `end` on, and not at the one before, it holds at none from that one on.
   pub none-less : (end most : ℕ) → 0 < end → ((k : ℕ) → end ≤ k → k < most → ¬ (P k)) → ¬ (P (end - 1)) → (k : ℕ) → end - 1 ≤ k → k < most → ¬ (P k)
   none-less end most some beyond here k le l holds = elim (cases_lt k end) [
     | inl below ↦ (let e : k ≡ end - 1 = omega (arith, le, below) in here (subst P e holds))

@@ -79,18 +79,23 @@ module _ (x : ℕ → ℕ) (m : ℕ) (parts : Factorization) (is : IsFactorizati
           let e : k ≡ at = omega (arith, le, le2) in
           differ (sym (ap (λ a. h (a + j)) e) ∙ occurs.reads j (omega (arith, below, is.below)))
 
+      -- The needle occurs at none of the next offsets, as many as the period.
       pub none-within_period : (k : ℕ) → at ≤ k → k < at + parts.period → ¬ (OccursIn x m h n k)
       none-within_period k le l occurs = elim (cases_lt at k) [
         | inl further ↦ is.least (k - at) (omega (arith, further)) (omega (arith, l, further)) (repeat-after k further occurs)
         | inr here ↦ not-here k le here occurs
       ]
 
+      -- If the period is none of the whole needle, the needle occurs at none of the next offsets, up to the length of
+      -- the first part.
       pub none-within_cut : ¬ (IsRepeat x m parts.cut parts.period) → (k : ℕ) → at ≤ k → k ≤ at + parts.cut → ¬ (OccursIn x m h n k)
       none-within_cut once k le l occurs = elim (cases_lt at k) [
         | inl further ↦ is.beyond (k - at) (omega (arith, further)) (omega (arith, l, further)) (repeat-after k further occurs)
         | inr here ↦ not-here k le here occurs
       ]
 
+      -- If the period is none of the whole needle, the needle occurs at none of the next offsets, up to the length of
+      -- the second part.
       pub none-within_rest : ¬ (IsRepeat x m parts.cut parts.period) → (k : ℕ) → at ≤ k → k ≤ at + (m - parts.cut) → ¬ (OccursIn x m h n k)
       none-within_rest once k le l occurs = elim (cases_lt at k) [
         | inl further ↦ once (multiple (k - at) (omega (arith, further)) (omega (arith, l, further, is.below)) (repeat-after k further occurs)).least

@@ -33,6 +33,7 @@ module _ {X : Type 0} (number : X → ℕ) (same : (x y : X) → number x ≡ nu
   pub occurs-front : (at : ℕ) → OccursFrom false number needle us at → OccursAt needle us at
   occurs-front at occurs = occurs-read at occurs.fits occurs.reads
 
+  -- An occurrence of the slice is one counted from the beginning.
   pub front-occurs : (at : ℕ) → OccursAt needle us at → OccursFrom false number needle us at
   front-occurs at occurs = record { fits = occurs.within; reads = reads-units at occurs }
 
@@ -43,6 +44,7 @@ module _ {X : Type 0} (number : X → ℕ) (same : (x y : X) → number x ≡ nu
       let e2 : length needle - 1 - (length needle - 1 - j) ≡ j = omega (arith, l) in
       sym (ap (λ k. get_or (map number us) k 0) e) ∙ occurs.reads (length needle - 1 - j) (omega (arith, l)) ∙ ap (λ k. get_or (map number needle) k 0) e2)
 
+  -- An occurrence of the slice is one counted from the end.
   pub back-occurs : (at : ℕ) → OccursAt needle us at → OccursFrom true number needle us (length us - length needle - at)
   back-occurs at occurs = record {
     fits = omega (arith, occurs.within);

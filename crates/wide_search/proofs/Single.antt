@@ -10,6 +10,7 @@ pub none-yet : {X : Type 0} (needle us : List X) (k : ℕ) → k < 0 → ¬ (Occ
 none-yet needle us k l occurs = absurd (omega (arith, l))
 
 module _ {X : Type 0} (number : X → ℕ) where
+  -- A unit with the number of the needle is an occurrence.
   pub unit-occurs : ((x y : X) → number x ≡ number y → x ≡ y) → (us : List X) (u : X) (at : ℕ) → at < length us → slice_index (map number us) at ≡ number u → OccursAt (u ∷ []) us at
   unit-occurs same [] u at l e = absurd (omega (arith, l))
   unit-occurs same (x ∷ us) u zero l e = record { within = omega arith; same = ap (λ y. y ∷ []) (same x u e) }
@@ -17,10 +18,12 @@ module _ {X : Type 0} (number : X → ℕ) where
       let later = unit-occurs same us u at (omega (arith, l)) e in
       record { within = omega (arith, later.within); same = later.same }
 
+  -- If no unit has the number of the needle, it does not occur.
   pub nowhere-reported : (u : X) (v : ℕ) (us : List X) → v ≡ number u → (r : Option ℕ) → IfNone r (All (λ x. number x ≢ v) us) → IfNone r (OccursNowhere (u ∷ []) us)
   nowhere-reported u v us code None all = none-reported number (u ∷ []) us [] us u v 0 refl code refl (none-yet (u ∷ []) us) all
   nowhere-reported u v us code (Some at) all = all
 
+  -- The first unit with the number of the needle is its first occurrence.
   pub first-reported : ((x y : X) → number x ≡ number y → x ≡ y) → (u : X) (v : ℕ) (us : List X) → v ≡ number u → (r : Option ℕ)
       → IfSome r (λ offset. offset < length us) → IfSome r (λ offset. All (λ x. number x ≢ v) (take offset us)) → IfSome r (λ offset. slice_index (map number us) offset ≡ v)
       → IfSome r (IsFirstAt (u ∷ []) us)

@@ -50,6 +50,7 @@ module _ (lt : ℕ → ℕ → Type 0) where
   }
 
   module _ (trans : (a b c : ℕ) → lt a b → lt b c → lt a c) where
+    -- A suffix that is less than another, which is less than a third, is less than the third.
     pub lesser-trans : (x : ℕ → ℕ) (m s l o : ℕ) → IsLesser lt x m s l → IsLesser lt x m l o → IsLesser lt x m s o
     lesser-trans x m s l o one two = elim (cases_lt one.at two.at) [
       | inl below ↦ record {

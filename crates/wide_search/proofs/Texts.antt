@@ -48,10 +48,12 @@ module _ {X : Type 0} (form : EncodingForm) (number : X → ℕ) where
     ends-none : (at : ℕ) → IsBoundary form (map number us) at → Ends [] us at
     ends-none at b = let same : at ≡ at + 0 = omega arith in (seen at b, seen (at + 0) (subst (λ n. IsBoundary form (map number us) n) same b))
 
+    -- Both ends of the first occurrence are boundaries.
     pub first-ends : (needle : List X) (at : ℕ) → IsWellFormed form (map number needle) → IsFirstAt needle us at → Ends needle us at
     first-ends [] at well_needle first = ends-none at (subst (λ n. IsBoundary form (map number us) n) (sym (first-empty us at first)) (IsBoundary-start form (map number us)))
     first-ends (x ∷ xs) at well_needle first = ends-some (x ∷ xs) at well_needle (omega arith) first.here
 
+    -- Both ends of the last occurrence are boundaries.
     pub last-ends : (needle : List X) (at : ℕ) → IsWellFormed form (map number needle) → IsLastAt needle us at → Ends needle us at
     last-ends [] at well_needle last =
         ends-none at (subst (λ n. IsBoundary form (map number us) n) (length-map us number ∙ sym (last-empty us at last)) (IsBoundary-end form (map number us)))
@@ -74,6 +76,7 @@ module _ {X : Type 0} (form : EncodingForm) (number : X → ℕ) where
       same = ap (take (length needle)) e ∙ take-append_seam needle rest;
     }
 
+    -- The end of a needle with which the units begin is a boundary.
     pub begins-end : (needle : List X) → IsWellFormed form (map number needle) → BeginsWith needle us → IsCharBoundary form (map number us) (length needle)
     begins-end [] well_needle begins = seen 0 (IsBoundary-start form (map number us))
     begins-end (x ∷ xs) well_needle begins =
@@ -89,6 +92,7 @@ module _ {X : Type 0} (form : EncodingForm) (number : X → ℕ) where
           same = ap (take (length needle)) (ap (λ n. drop n us) at ∙ ap (drop (length prefix)) e ∙ drop-append_seam prefix needle) ∙ take_all (length needle) needle (omega arith);
         }
 
+    -- The start of a needle with which the units end is a boundary.
     pub ends-start : (needle : List X) → IsWellFormed form (map number needle) → EndsWith needle us → IsCharBoundary form (map number us) (length us - length needle)
     ends-start [] well_needle ends =
         let all : length (map number us) ≡ length us - 0 = omega (arith, length-map us number) in

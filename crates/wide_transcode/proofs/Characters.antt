@@ -42,6 +42,7 @@ module _ (us text : List ℕ) (e : EncodedUnits us [] text) where
   length-characters : length (chars Utf16 us) ≡ length e.cs
   length-characters = ap length encoded-characters
 
+  -- Encoded units have no more characters than units.
   pub few-encoded : length (chars Utf16 us) ≤ length us
   few-encoded = omega (arith, length-characters, ap length e.units, few-characters e.cs e.scalars)
 

@@ -121,7 +121,7 @@ left-prefix order rest = by_odd (is_odd rest) (units_in order rest)
           )
     ]
 
--- Half a unit, and a zero unit at the end, mean no units.
+-- At most half a unit means no units.
 pub short-left : (order : BoM) (rest : List ℕ) → length rest < 2 → units_after order rest ≡ []
 short-left order rest short = ap (λ us. cond (is_odd rest) us (without_last_zero us)) (units_in-short order rest short) ∙ by_odd (is_odd rest)
   where
@@ -129,6 +129,7 @@ short-left order rest short = ap (λ us. cond (is_odd rest) us (without_last_zer
     by_odd true = refl
     by_odd false = refl
 
+-- A zero unit at the end means no units.
 pub zero-left : (order : BoM) (rest : List ℕ) → length rest ≡ 2 → units_in order rest ≡ 0 ∷ [] → units_after order rest ≡ []
 zero-left order rest two one =
     ap (λ n. cond (eqb (n % 2) 1) (units_in order rest) (without_last_zero (units_in order rest))) two ∙ ap (λ us. without_last_zero us) one ∙ dropped-zero [] 0

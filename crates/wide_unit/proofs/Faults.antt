@@ -68,6 +68,7 @@ first_fault-split form us index item u e =
     let split = leading-split (items form us) u parts.0 in
     (prefix, split.0, split.1, parts.1, parts.2)
 
+-- A fault that only characters precede is the first one.
 pub IsFirstFault-of : (form : EncodingForm) (us prefix : List ℕ) (rest : List Item) (index item u : ℕ) → items form us ≡ map Char prefix ++ Fault u ∷ rest → length (encode form prefix) ≡ index → length prefix ≡ item
     → IsFirstFault form us index item u
 IsFirstFault-of form us prefix rest index item u split at number =
@@ -128,6 +129,7 @@ first_fault-first form us index item u e =
 contains_after : (is js : List Item) (i : Item) → Contains (is ++ i ∷ js) i
 contains_after is js i = Contains-append_right is (i ∷ js) i (search rules)
 
+-- Units with a first fault are not well formed.
 pub first_fault-not_well_formed : (form : EncodingForm) (us : List ℕ) (index item u : ℕ) → IsFirstFault form us index item u → ¬ (IsWellFormed form us)
 first_fault-not_well_formed form us index item u e well =
     let (prefix, rest, split, at, number) = first_fault-split form us index item u e in

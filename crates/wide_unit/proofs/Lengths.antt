@@ -84,9 +84,11 @@ count-all (c ∷ cs) =
     let one : begins (length (code_units Utf16 c)) ≡ 1 = elim (cases_lt c 0x1_0000) [ inl below ↦ rw (one_unit c below) | inr from ↦ rw (two_units c from) ] in
     omega (arith, count-all cs, sum_by-cons (λ x. begins (length (code_units Utf16 x))) c cs)
 
+-- The length of a text in UTF-32 is the number of bytes at which characters begin.
 pub length-utf32 : (bs : List ℕ) → IsUtf8 bs → sum_by (λ b. begins (units_begun b)) bs ≡ length (chars bs)
 length-utf32 bs text = weight-text begins refl bs text ∙ count-all (chars bs)
 
+-- The length of characters in UTF-32 is their number.
 pub length-encode_utf32 : (cs : List ℕ) → length (encode Utf32 cs) ≡ length cs
 length-encode_utf32 [] = refl
 length-encode_utf32 (c ∷ cs) = ap suc (length-encode_utf32 cs)

@@ -219,12 +219,13 @@ no_scalar_block us long fits =
     let whole : take 8 us ≡ us = take_all 8 us (omega arith) in
     ap bits32 whole ∙ bits32-are us long (Each1-from_get_or (λ u. u < 2 ^ 32) us 0 (λ i _. (fits i).fits))
 
--- The mask of the units that equal one unit.
+-- The mask of the 16-bit units that equal one unit.
 pub same_block16 : (v : ℕ) (us : List ℕ) → length us ≡ 16 → mask_l (map (top 15) (zip2 (λ a b. cond (eqb a b) (2 ^ 16 - 1) 0) (take 16 us) (replicate 16 v))) % 2 ^ 64 ≡ mask_l (map (is_unit v) us)
 same_block16 v us long =
     let whole : take 16 us ≡ us = take_all 16 us (omega arith) in
     ap (λ vs. mask_l (map (top 15) (zip2 (λ a b. cond (eqb a b) (2 ^ 16 - 1) 0) vs (replicate 16 v))) % 2 ^ 64) whole ∙ bitmask_splat w16 eqb us 16 v long (omega arith)
 
+-- The mask of the 32-bit units that equal one unit.
 pub same_block32 : (v : ℕ) (us : List ℕ) → length us ≡ 8 → mask_l (map (top 31) (zip2 (λ a b. cond (eqb a b) (2 ^ 32 - 1) 0) (take 8 us) (replicate 8 v))) % 2 ^ 64 ≡ mask_l (map (is_unit v) us)
 same_block32 v us long =
     let whole : take 8 us ≡ us = take_all 8 us (omega arith) in
@@ -253,10 +254,12 @@ high_test u l = let e : bit_and u 0xfc00 ≡ u / 2 ^ 10 * 2 ^ 10 = and_high_mask
 low_test : (u : ℕ) → u < 2 ^ 16 → eqb (bit_and u 0xfc00) 0xdc00 ≡ is_low u
 low_test u l = let e : bit_and u 0xfc00 ≡ u / 2 ^ 10 * 2 ^ 10 = and_high_mask 16 10 (omega arith) u l in rw e (grind arith)
 
+-- The mask of the high surrogates of a block.
 pub high_block : (us : List ℕ) → length us ≡ 16 → ((k : ℕ) → Fits w16 (get_or us k 0))
     → mask_l (map (top 15) (zip2 (λ a b. cond (eqb a b) (2 ^ 16 - 1) 0) (zip2 bit_and (take 16 us) (replicate 16 0xfc00)) (replicate 16 0xd800))) % 2 ^ 64 ≡ mask_l (map is_high us)
 high_block = masked_block16 0xd800 is_high high_test
 
+-- The mask of the low surrogates of a block.
 pub low_block : (us : List ℕ) → length us ≡ 16 → ((k : ℕ) → Fits w16 (get_or us k 0))
     → mask_l (map (top 15) (zip2 (λ a b. cond (eqb a b) (2 ^ 16 - 1) 0) (zip2 bit_and (take 16 us) (replicate 16 0xfc00)) (replicate 16 0xdc00))) % 2 ^ 64 ≡ mask_l (map is_low us)
 low_block = masked_block16 0xdc00 is_low low_test

@@ -17,16 +17,20 @@ PassedFirst is now = (run : List ℕ) × (is ≡ map Fault run ++ now)
 abbrev pub PassedLast : List Item → List Item → Type 0
 PassedLast is now = (run : List ℕ) × (is ≡ now ++ map Fault run)
 
+-- Before anything was read from the front, only faults were.
 pub none_first : (is : List Item) → PassedFirst is is
 none_first is = ([], refl)
 
+-- Before anything was read from the back, only faults were.
 pub none_last : (is : List Item) → PassedLast is is
 none_last is = ([], sym (append-nil is))
 
+-- After one more fault was read from the front, only faults were.
 pub one_more_first : (is now next : List Item) (u : ℕ) → PassedFirst is now → now ≡ Fault u ∷ next → PassedFirst is next
 one_more_first is now next u passed e =
     (passed.0 ++ u ∷ [], passed.1 ∙ ap (λ xs. map Fault passed.0 ++ xs) e ∙ sym (append_assoc (map Fault passed.0) (Fault u ∷ []) next) ∙ ap (λ xs. xs ++ next) (sym (map_push Fault passed.0 u)))
 
+-- After one more fault was read from the back, only faults were.
 pub one_more_last : (is now next : List Item) (u : ℕ) → PassedLast is now → now ≡ next ++ Fault u ∷ [] → PassedLast is next
 one_more_last is now next u passed e =
     (u ∷ passed.0, passed.1 ∙ ap (λ xs. xs ++ map Fault passed.0) e ∙ append_assoc next (Fault u ∷ []) (map Fault passed.0))
@@ -69,7 +73,7 @@ after_fault policy is past = elim past [
   | inr some ↦ rw some.2 (lossy_after-char policy true some.0 some.1 ∙ sym (lossy_after-char policy false some.0 some.1) ∙ lossy_after-none policy (Char some.0 ∷ some.1))
 ]
 
--- What a call yields that reads a run of faults: what the policy has for the first of them.
+-- What a call from the front yields that reads a run of faults: what the policy has for the first of them.
 pub run_next : (policy : Policy) (is tail rest : List Item) (u c : ℕ) → replacement policy false ≡ Some c → is_some (replacement policy true) ≡ false → is ≡ Fault u ∷ tail → BeginsPastFaults tail rest → lossy_by policy is ≡ c ∷ lossy_by policy rest
 run_next policy is tail rest u c e none f begins =
     ap (lossy_by policy) f ∙ sym (lossy_after-none policy (Fault u ∷ tail)) ∙ lossy_after-replaced policy false u c tail e
@@ -90,6 +94,7 @@ ends_in_char is before = elim before [
   | inr some ↦ ap (ends_in_fault false) some.2 ∙ ends_in_fault-append false some.1 (Char some.0 ∷ [])
 ]
 
+-- What a call from the back yields that reads a run of faults: what the policy has for the first of them.
 pub run_next_back : (policy : Policy) (is prefix rest : List Item) (u c : ℕ) → replacement policy false ≡ Some c → is_some (replacement policy true) ≡ false → is ≡ prefix ++ Fault u ∷ [] → EndsBeforeFaults prefix rest → lossy_by policy is ≡ lossy_by policy rest ++ c ∷ []
 run_next_back policy is prefix rest u c e none f ends =
     let faults = map Fault ends.run ++ Fault u ∷ [] in

@@ -54,12 +54,13 @@ module _ {A : Type 0} where
       ∙ ap (λ zs. zs ++ drop (a + l + n) xs) (append_assoc (take a xs) (take l (drop b xs)) (take n (drop (b + l) xs)))
       ∙ ap (λ zs. take a xs ++ zs ++ drop (a + l + n) xs) both ∙ ap (λ k. take a xs ++ take (l + n) (drop b xs) ++ drop k xs) end
 
-  -- One more element is pasted.
+  -- One more element of a block is written.
   pub write-one : (xs ys zs : List A) (at k : ℕ) (z v : A) → v ≡ get_or ys k z → zs ≡ paste xs at ys k → at + k < length xs → k < length ys → set zs (at + k) v ≡ paste xs at ys (k + 1)
   write-one xs ys zs at k z v here is below within =
       let next : suc k ≡ k + 1 = omega arith in
       ap (set zs (at + k)) here ∙ ap (λ vs. set vs (at + k) (get_or ys k z)) is ∙ paste-suc xs at ys k z below within ∙ ap (paste xs at ys) next
 
+  -- One more element of a block is read.
   pub read-one : (xs ys zs : List A) (from k : ℕ) (z v : A) → v ≡ get_or ys (from + k) z → zs ≡ paste xs 0 (drop from ys) k → k < length xs → from + k < length ys → set zs k v ≡ paste xs 0 (drop from ys) (k + 1)
   read-one xs ys zs from k z v here is below within =
       let none : k ≡ 0 + k = omega arith in
@@ -93,6 +94,7 @@ module _ {A : Type 0} where
   copies : (xs : List A) (i j k d e n : ℕ) → i ≡ k → d ≡ e → j - i ≡ n → copy_within xs i j d ≡ paste xs e (drop k xs) n
   copies xs i j k d e n p q r = ap (λ m. paste xs m (drop i xs) (j - i)) q ∙ ap (λ m. paste xs e (drop m xs) (j - i)) p ∙ ap (paste xs e (drop k xs)) r
 
+  -- After a block of the remaining elements was moved up, the elements from its first on are moved.
   pub up-step : (xs ys zs : List A) (from to count left n : ℕ) → from ≤ to → to + count ≤ length xs → left ≤ count → n ≤ left
       → ys ≡ copy_within xs (from + left) (from + count) (to + left) → zs ≡ copy_within ys (from + (left - n)) (from + (left - n) + n) (to + (left - n))
       → zs ≡ copy_within xs (from + (left - n)) (from + count) (to + (left - n))
@@ -101,6 +103,7 @@ module _ {A : Type 0} where
       (moved ∙ copies ys (from + (left - n)) (from + (left - n) + n) (from + (left - n)) (to + (left - n)) (to + (left - n)) n refl refl (omega arith))
       ∙ sym (copies xs (from + (left - n)) (from + count) (from + (left - n)) (to + (left - n)) (to + (left - n)) (count - (left - n)) refl refl (omega (arith, some, fits)))
 
+  -- After the remaining elements were moved up, all are.
   pub up-rest : (xs ys zs : List A) (from to count left : ℕ) → from ≤ to → to + count ≤ length xs → left ≤ count
       → ys ≡ copy_within xs (from + left) (from + count) (to + left) → zs ≡ copy_within ys from (from + left) to → zs ≡ copy_within xs from (from + count) to
   up-rest xs ys zs from to count left le within some before moved =

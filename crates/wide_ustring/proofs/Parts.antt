@@ -31,5 +31,6 @@ module _ {X : Type 0} where
       let last : get_or (drop prefix xs) n x ≡ x = get_or-drop prefix xs n x ∙ ap (λ k. get_or xs k x) (omega arith) ∙ sym is in
       enough ∙ more ∙ ap (λ y. take n (drop prefix xs) ++ y ∷ []) last
 
+  -- A slice that ends where it starts, or before, is empty.
   pub part_none : (xs : List X) (prefix back : ℕ) → min back (length xs) ≤ prefix → slice_range xs prefix back ≡ []
   part_none xs prefix back past = grind (arith, common_steps)

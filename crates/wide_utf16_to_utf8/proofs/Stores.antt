@@ -32,12 +32,15 @@ stored_four xs at a b d e space =
 
 -- The bytes of a unit that is a character.
 module _ (xs : List ℕ) (at u : ℕ) where
+  -- A unit below 80 is stored as one byte.
   pub put_one : at < length xs → u < 0x80 → take (at + 1) (set xs at u) ≡ take at xs ++ utf8_bytes u
   put_one space below = stored_one xs at u space ∙ ap (λ bs. take at xs ++ bs) (sym (one_byte u below))
 
+  -- A unit from 80 up to 7FF is stored as two bytes.
   pub put_two : at + 1 < length xs → 0x80 ≤ u → u < 0x800 → take (at + 2) (set (set xs at (192 + u / 64)) (at + 1) (128 + u % 64)) ≡ take at xs ++ utf8_bytes u
   put_two space from below = stored_two xs at _ _ space ∙ ap (λ bs. take at xs ++ bs) (sym (two_bytes u from below))
 
+  -- A unit from 800 on is stored as three bytes.
   pub put_three : at + 2 < length xs → 0x800 ≤ u → u < 0x1_0000 → take (at + 3) (set (set (set xs at (224 + u / 4096)) (at + 1) (128 + u / 64 % 64)) (at + 2) (128 + u % 64)) ≡ take at xs ++ utf8_bytes u
   put_three space from below = stored_three xs at _ _ _ space ∙ ap (λ bs. take at xs ++ bs) (sym (three_bytes u from below))
 

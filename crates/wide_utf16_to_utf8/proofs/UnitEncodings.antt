@@ -27,6 +27,7 @@ all-one P x p (suc k) d within = absurd (omega arith)
 pub units-none : (text : List ℕ) → EncodedUnits [] text text
 units-none text = record { cs = []; scalars = λ k d within. absurd (omega arith); units = refl; text = sym (append-nil text) }
 
+-- The text of two lists of units, one after the other.
 pub units-then : {a b s t u : List ℕ} → EncodedUnits a s t → EncodedUnits b t u → EncodedUnits (a ++ b) s u
 units-then {a} {b} {s} {t} {u} x y = record {
   cs = x.cs ++ y.cs;
@@ -44,6 +45,7 @@ units-one u s t below plain text = record {
   text = text ∙ ap (λ bs. s ++ bs) (sym (append-nil (utf8_bytes u)));
 }
 
+-- The text of a surrogate pair.
 pub units-pair : (h l : ℕ) (s t : List ℕ) → 0xd800 ≤ h → h < 0xdc00 → 0xdc00 ≤ l → l < 0xe000 → t ≡ s ++ utf8_bytes (0x10000 + ((h - 0xd800) * 0x400 + (l - 0xdc00))) → EncodedUnits (h ∷ l ∷ []) s t
 units-pair h l s t from_h to_h from_l to_l text =
     let c : ℕ = 0x10000 + ((h - 0xd800) * 0x400 + (l - 0xdc00)) in

@@ -42,7 +42,7 @@ module _ {X : Type 0} (form : EncodingForm) (number : X → ℕ) (xs : List X) (
       λ at. refl,
     )
 
--- If an offset is no boundary, the offset before it is one.
+-- Well-formed units, in which the offset `n + 1` is before the end.
 module _ (form : EncodingForm) (us : List ℕ) (n : ℕ) (well : IsWellFormed form us) (below : n + 1 < length us) where
   not_both : (form : EncodingForm) (u : ℕ) → IsHighSurrogate form u → IsLowSurrogate form u → ⊥
   not_both Utf16 u high low = omega (arith, high, low)
@@ -54,11 +54,13 @@ module _ (form : EncodingForm) (us : List ℕ) (n : ℕ) (well : IsWellFormed fo
       let unit : get_or us n 0 ≡ h = sym (get_or-take (n + 1) us n 0 (omega arith)) ∙ ap (λ xs. get_or xs n 0) e ∙ get_or_at prefix h [] 0 n long in
       not_both form h (IsPair-parts form h l pair).0 (subst (λ u. IsLowSurrogate form u) unit low)
 
+  -- The offset after a low surrogate is a boundary.
   pub beyond-boundary : IsLowSurrogate form (get_or us n 0) → IsBoundary form us (n + 1)
   beyond-boundary low =
       let b = IsBoundary-of_cut form (take (n + 1) us) (drop (n + 1) us) (after_low low) in
       (b.0, b.1, ap (λ xs. items form xs) (sym (take-append-drop (n + 1) us)) ∙ b.2, b.3 ∙ length-take-le (n + 1) us (omega arith))
 
+  -- If an offset is no boundary, the offset before it is one.
   pub boundary_before : ¬ (IsCharBoundary form us (n + 1)) → IsCharBoundary form us n
   boundary_before none = (omega arith, λ some within low. none (omega arith, λ _ _ second. no-low_at_boundary form us (n + 1) well below (beyond-boundary low) second))
 
@@ -77,11 +79,13 @@ above-of_other n other l apart = grind (arith, l, apart)
 below-of_other : (other n : ℕ) → other ≤ suc n → (other ≡ suc n → ⊥) → other ≤ n
 below-of_other other n l apart = grind (arith, l, apart)
 
--- If an offset is no boundary, the offset after it is one.
+-- An offset `n` in well-formed units.
 module _ (form : EncodingForm) (us : List ℕ) (n : ℕ) (well : IsWellFormed form us) where
+  -- If an offset is no boundary, the offset after it is one.
   pub boundary_after : n < length us → ¬ (IsCharBoundary form us n) → IsCharBoundary form us (n + 1)
   boundary_after here none = (omega (arith, here), λ some within second. none (omega (arith, here), λ _ _ low. no-low_at_boundary form us (n + 1) well within (beyond-boundary form us n well within low) second))
 
+  -- If an offset is no boundary, the offset after it is the next boundary.
   pub beyond-ceil : n < length us → ¬ (IsCharBoundary form us n) → IsCeilBoundary form us n (n + 1)
   beyond-ceil below none = record {
     boundary = boundary_after below none;
@@ -93,6 +97,7 @@ module _ (form : EncodingForm) (us : List ℕ) (n : ℕ) (well : IsWellFormed fo
     past = λ l. absurd (omega (arith, below, l));
   }
 
+-- If an offset is no boundary, the offset before it is the last boundary before it.
 pub before-floor : (form : EncodingForm) (us : List ℕ) (n : ℕ) → IsWellFormed form us → n < length us → ¬ (IsCharBoundary form us n) → IsFloorBoundary form us n (n - 1)
 before-floor form us zero well below none = absurd (none (omega arith, λ some within. absurd (omega (arith, some))))
 before-floor form us (suc n) well below none =

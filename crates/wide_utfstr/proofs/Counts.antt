@@ -30,8 +30,10 @@ module _ {X : Type 0} (form : EncodingForm) (number : X → ℕ) (xs : List X) (
   all_units : length (encode form (chars form (map number xs))) ≡ length xs
   all_units = ap length (encode-chars form (map number xs) well) ∙ length-map xs number
 
+  -- There are at most as many characters as units.
   pub chars-at_most : length (chars form (map number xs)) ≤ length xs
   chars-at_most = omega (arith, at_most_units form (chars form (map number xs)), all_units)
 
+  -- There are at least as many characters as units divided by `most`.
   pub chars-at_least : (most : ℕ) → length (code_units form 0x1_0000) ≤ most → length xs / most ≤ length (chars form (map number xs))
   chars-at_least most longest = div-le_of_le-mul most (omega (arith, at_least_units form most longest (chars form (map number xs)), all_units))

@@ -35,6 +35,7 @@ trimmed_start-reverse cs rest a = record {
   longest = begins-reverse rest a.longest;
 }
 
+-- Trimming at the end has only one result.
 pub trimmed_end-same : (cs rest left : List ℕ) → IsTrimmedEnd cs rest → IsTrimmedEnd cs left → rest ≡ left
 trimmed_end-same cs rest left a b =
     let same = trimmed_start-same (reverse cs) (reverse rest) (reverse left) (trimmed_start-reverse cs rest a) (trimmed_start-reverse cs left b) in
