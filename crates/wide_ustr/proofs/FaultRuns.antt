@@ -17,20 +17,20 @@ PassedFirst is now = (run : List ℕ) × (is ≡ map Fault run ++ now)
 abbrev pub PassedLast : List Item → List Item → Type 0
 PassedLast is now = (run : List ℕ) × (is ≡ now ++ map Fault run)
 
--- Before anything was read from the front, only faults were.
+-- If nothing was read from the front, all that was read are faults.
 pub none_first : (is : List Item) → PassedFirst is is
 none_first is = ([], refl)
 
--- Before anything was read from the back, only faults were.
+-- If nothing was read from the back, all that was read are faults.
 pub none_last : (is : List Item) → PassedLast is is
 none_last is = ([], sym (append-nil is))
 
--- After one more fault was read from the front, only faults were.
+-- If one more fault was read from the front, all that was read are faults.
 pub one_more_first : (is now next : List Item) (u : ℕ) → PassedFirst is now → now ≡ Fault u ∷ next → PassedFirst is next
 one_more_first is now next u passed e =
     (passed.0 ++ u ∷ [], passed.1 ∙ ap (λ xs. map Fault passed.0 ++ xs) e ∙ sym (append_assoc (map Fault passed.0) (Fault u ∷ []) next) ∙ ap (λ xs. xs ++ next) (sym (map_push Fault passed.0 u)))
 
--- After one more fault was read from the back, only faults were.
+-- If one more fault was read from the back, all that was read are faults.
 pub one_more_last : (is now next : List Item) (u : ℕ) → PassedLast is now → now ≡ next ++ Fault u ∷ [] → PassedLast is next
 one_more_last is now next u passed e =
     (u ∷ passed.0, passed.1 ∙ ap (λ xs. xs ++ map Fault passed.0) e ∙ append_assoc next (Fault u ∷ []) (map Fault passed.0))

@@ -17,14 +17,14 @@ use Rattle.wide_bytes.specs.declared.order.BoM.{BoM}
 use Rattle.wide_bytes.proofs.Pairs.{length-units_in, units_in-append, units_in-short}
 use Rattle.widestring_c.specs.Bytes.{IsWellFormedIn, text_in}
 
--- half a unit has no units, so no pair is split before it
+-- Half a unit has no units, so no pair is split before it.
 pub cut-before_half : (order : BoM) (us bytes : List ℕ) → length bytes < 2 → IsCut Utf16 us (units_in order bytes)
 cut-before_half order us bytes short prefix back h l ends begins pair = let none : [] ≡ l ∷ back = sym (units_in-short order bytes short) ∙ begins in absurd cc
 
 pub cut-before_none : (order : BoM) (us bytes : List ℕ) → IsCut Utf16 us (units_in order (bytes ++ [])) → IsCut Utf16 us (units_in order bytes)
 cut-before_none order us bytes cut = subst (λ bs. IsCut Utf16 us (units_in order bs)) (append-nil bytes) cut
 
--- the items of a chunk and of the bytes after it
+-- The items of a chunk and of the bytes after it.
 items-joined : (order : BoM) (prefix back : List ℕ) → length prefix % 2 ≡ 0 → IsCut Utf16 (units_in order prefix) (units_in order back)
     → items Utf16 (units_in order (prefix ++ back)) ≡ items Utf16 (units_in order prefix) ++ items Utf16 (units_in order back)
 items-joined order prefix back even cut = ap (items Utf16) (units_in-append order prefix back even) ∙ items-append Utf16 (units_in order prefix) (units_in order back) cut
@@ -82,7 +82,7 @@ none-last after order bytes short = sym (ap (λ us. units_end_in_fault after us)
 
 -- ---- the first fault
 
--- the first `passed` units are well formed, and the remaining units are those of `left`
+-- The first `passed` units are well formed, and the remaining units are those of `left`.
 pub record Passed (us : List ℕ) (passed : ℕ) (left : List ℕ) : Type 0 where
   pub cs : List ℕ
   pub parted : items Utf16 us ≡ map Char cs ++ items Utf16 left
@@ -118,7 +118,7 @@ module _ (us : List ℕ) (passed : ℕ) (left : List ℕ) (p : Passed us passed 
       in
       IsFirstFault-of Utf16 us (p.cs ++ ds) (rest ++ items Utf16 back) (passed + n) (length p.cs + item) u joined counted (length-append p.cs ds ∙ ap (λ m. length p.cs + m) number)
 
--- if no unit is left, all units are well formed
+-- If no unit is left, all units are well formed.
 pub all-passed : (order : BoM) (bytes us : List ℕ) (passed : ℕ) → length bytes < 2 → Passed us passed (units_in order bytes) → IsWellFormed Utf16 us
 all-passed order bytes us passed short p =
     let none : items Utf16 (units_in order bytes) ≡ [] = ap (items Utf16) (units_in-short order bytes short) ∙ items-nil Utf16 in

@@ -13,7 +13,7 @@ use Rattle.wide_forms.specs.declared.policy.Policy.{Policy}
 use Rattle.wide_conversions.specs.Utf8Items.{IsLossyPrefix, none, utf8_items, utf8_items-divide, utf8_items-unique}
 use Rattle.wide_conversions.proofs.LossyItems.{lossy-after_text, lossy-rest}
 
--- the text of the prefix, the units of some items after it, and the text of the rest
+-- The text of the prefix, the units of some items after it, and the text of the rest.
 pub lossy_prefix : (form : EncodingForm) (policy : Policy) (bs us : List ℕ) (n m : ℕ) (after between next : Bool) → n ≤ length bs → IsUtf8 (take n bs) → (n ≡ 0 → between ≡ after) → (1 ≤ n → between ≡ false)
     → IsLossyPrefix form policy (drop n bs) m between next [] us
     → encode form (lossy_after policy after (utf8_items bs)) ≡ encode form (chars (take n bs)) ++ (us ++ encode form (lossy_after policy next (utf8_items (drop m (drop n bs)))))
@@ -22,17 +22,17 @@ lossy_prefix form policy bs us n m after between next within text same other ite
     let rest = lossy_after policy between (utf8_items (drop n bs)) in
     ap (encode form) (lossy-after_text policy bs n after between within text same other) ∙ flat_map-append (code_units form) cs rest ∙ ap (λ vs. encode form cs ++ vs) (lossy-rest form policy (drop n bs) [] us m between next items)
 
--- no bytes and no units have no lossy text
+-- No bytes and no units have no lossy text.
 pub lossy_end : (form : EncodingForm) (policy : Policy) (after : Bool) (bs : List ℕ) → length bs ≡ 0 → encode form (lossy_after policy after (utf8_items bs)) ≡ []
 lossy_end form policy after [] empty = ap (λ is. encode form (lossy_after policy after is)) (utf8_items-unique [] _ _ (utf8_items-divide []) none) ∙ ap (encode form) (lossy_after-none_left policy after)
 lossy_end form policy after (b ∷ bs) empty = absurd (omega arith)
 
--- no units have no lossy text
+-- No units have no lossy text.
 pub lossy_units_end : (form : EncodingForm) (policy : Policy) (after : Bool) (us : List ℕ) → length us ≡ 0 → utf8 (lossy_after policy after (items form us)) ≡ []
 lossy_units_end form policy after [] empty = ap (λ is. utf8 (lossy_after policy after is)) (items-nil form) ∙ ap utf8 (lossy_after-none_left policy after)
 lossy_units_end form policy after (u ∷ us) empty = absurd (omega arith)
 
--- the UTF-8 of three texts
+-- The UTF-8 of three texts.
 pub three_texts : (a b c : List ℕ) → utf8 (a ++ (b ++ c)) ≡ utf8 a ++ (utf8 b ++ utf8 c)
 three_texts a b c = flat_map-append utf8_bytes a (b ++ c) ∙ ap (λ bs. utf8 a ++ bs) (flat_map-append utf8_bytes b c)
 
@@ -40,6 +40,6 @@ pub replacement : utf8 (0xFFFD ∷ []) ≡ 0xEF ∷ 0xBF ∷ 0xBD ∷ []
 unfolding utf8_bytes
 replacement = refl
 
--- bytes that are not UTF-8, by the result of a test
+-- Bytes that are not UTF-8, by the result of a test.
 pub faulty : (bs : List ℕ) (result : Bool) → IsTrue result ↔ IsUtf8 bs → result ≡ false → IsUtf8 bs → ⊥
 faulty bs result test other text = (let yes : result ≡ true = test.1 text in absurd cc)

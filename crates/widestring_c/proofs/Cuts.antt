@@ -12,7 +12,7 @@ use Rattle.wide_transcode.proofs.Certain.{high-cut, top-of_high}
 use Rattle.wide_bytes.proofs.Pairs.{length-units_in}
 use Rattle.wide_bytes.proofs.UnitLists.{units_in-take}
 
--- a unit and its two bytes
+-- A unit and its two bytes.
 unit-at : (order : BoM) (q : ℕ) (bytes : List ℕ) → 2 * q + 2 ≤ length bytes → get_or (units_in order bytes) q 0 ≡ unit_in order (get_or bytes (2 * q) 0) (get_or bytes (2 * q + 1) 0)
 unfolding units_in
 unit-at order q [] long = absurd (omega arith)
@@ -31,7 +31,7 @@ unit-of order n bytes even long =
 pub high-of : (u : ℕ) → is_high u ≡ true → IsHighSurrogate Utf16 u
 high-of u e = (grind (arith, e), grind (arith, e))
 
--- no pair is split before a high surrogate, whatever follows
+-- No pair is split before a high surrogate, whatever follows.
 pub cut-before_high : (order : BoM) (bytes : List ℕ) (n u : ℕ) → n % 2 ≡ 0 → n + 2 ≤ length bytes → u ≡ unit_in order (get_or bytes n 0) (get_or bytes (n + 1) 0) → is_high u ≡ true
     → (more : List ℕ) → IsCut Utf16 (units_in order (take n bytes)) (units_in order (drop n bytes ++ more))
 cut-before_high order bytes n u even long is high more =
@@ -42,7 +42,7 @@ cut-before_high order bytes n u even long is high more =
 no_high : (u : ℕ) → is_high u ≡ false → 0xD800 ≤ u → u ≤ 0xDBFF → ⊥
 no_high u e from to = grind (arith, e, from, to)
 
--- no pair is split after a unit that is not a high surrogate
+-- No pair is split after a unit that is not a high surrogate.
 beyond-plain : (us vs : List ℕ) (q : ℕ) → length us ≡ suc q → is_high (get_or us q 0) ≡ false → IsCut Utf16 us vs
 beyond-plain us vs q long plain prefix back h l ends begins pair =
     let at : length prefix ≡ q = omega (arith, long, ap length ends, length-append prefix (h ∷ [])) in

@@ -20,7 +20,7 @@ use Rattle.wide_conversions.specs.Laws.Utf8Items.{shorter-part}
 use Rattle.wide_conversions.specs.Utf8Items.{AreUtf8Items, none, character, part, utf8_items, utf8_items-divide}
 use Rattle.widestring_c.proofs.Windows.{bytes_of}
 
--- what is counted up to `usize::MAX` is counted exactly, if there are at most four for each unit
+-- What is counted up to `usize::MAX` is counted exactly, if there are at most four for each unit.
 pub exact_count : {X : Type 0} (number : X → ℕ) (us : List X) (count all : ℕ) → 4 * length us < 2 ^ 64 - 1 → all ≤ 4 * length (map number us) → count ≡ min all (2 ^ 64 - 1) → (count ≡ all) × (count < 2 ^ 64 - 1)
 exact_count number us count all few most is =
     let long : length (map number us) ≡ length us = length-map us number in
@@ -29,7 +29,7 @@ exact_count number us count all few most is =
 pub exact_end : {X : Type 0} (number : X → ℕ) (us : List X) (end all : ℕ) → 4 * length us < 2 ^ 64 - 1 → all ≤ 4 * length (map number us) → end ≡ min (0 + all) (2 ^ 64 - 1) → (end ≡ all) × (end < 2 ^ 64 - 1)
 exact_end number us end all few most is = exact_count number us end all few most (omega (arith, is))
 
--- a character has at least as many bytes in UTF-8 as units in the other forms
+-- A character has at least as many bytes in UTF-8 as units in the other forms.
 units_of : (form : EncodingForm) (c : ℕ) → length (code_units form c) ≤ length (utf8_bytes c)
 unfolding utf8_bytes
 units_of Utf32 c = grind (arith, nat_tests)
@@ -42,13 +42,13 @@ units-of_text_in : (form : EncodingForm) (cs : List ℕ) → length (encode form
 units-of_text_in form [] = omega arith
 units-of_text_in form (c ∷ cs) = omega (arith, units_of form c, units-of_text_in form cs, length-append (utf8_bytes c) (utf8 cs), length-append (code_units form c) (encode form cs))
 
--- the replacement character is one unit
+-- The replacement character is one unit.
 one_replacement : (form : EncodingForm) → length (code_units form 0xFFFD) ≤ 1
 one_replacement Utf16 = omega arith
 one_replacement Utf32 = omega arith
 
 module _ (form : EncodingForm) where
-  -- no policy writes more than a replacement character for each fault
+  -- No policy writes more than a replacement character for each fault.
   fault-short : (policy : Policy) (after : Bool) (u : ℕ) (is : List Item) → length (encode form (lossy_after policy true is)) ≤ length (encode form (lossy is)) → (r : Option ℕ) → replacement policy after ≡ r
       → length (encode form (lossy_after policy after (Fault u ∷ is))) ≤ length (encode form (lossy (Fault u ∷ is)))
   fault-short policy after u is rest None e = rw (lossy_after-dropped policy after u is e) (omega (arith, rest, length-append (code_units form 0xFFFD) (encode form (lossy is))))
@@ -65,7 +65,7 @@ module _ (form : EncodingForm) where
   by-short : (policy : Policy) (is : List Item) → length (encode form (lossy_by policy is)) ≤ length (encode form (lossy is))
   by-short policy is = rw (sym (lossy_after-none policy is)) (after-short policy false is)
 
-  -- the UTF-8 of units has at most four bytes for each unit
+  -- The UTF-8 of units has at most four bytes for each unit.
   pub bytes-well_formed : (us : List ℕ) → IsWellFormed form us → length (utf8 (chars form us)) ≤ 4 * length us
   bytes-well_formed us well = omega (arith, bytes_of form (chars form us), ap length (encode-chars form us well))
 
@@ -78,7 +78,7 @@ module _ (form : EncodingForm) where
   pub bytes-lossy_after : (policy : Policy) (after : Bool) (us : List ℕ) → length (utf8 (lossy_after policy after (items form us))) ≤ 4 * length us
   bytes-lossy_after policy after us = omega (arith, bytes_of form (lossy_after policy after (items form us)), after-short policy after (items form us), length-lossy form us)
 
-  -- the units of UTF-8 are at most one for each byte
+  -- The units of UTF-8 are at most one for each byte.
   pub units-text : (bs : List ℕ) → IsUtf8 bs → length (encode form (str_chars bs)) ≤ length bs
   units-text bs text = omega (arith, units-of_text_in form (str_chars bs), ap length (utf8-encode_utf8_all (str_chars bs) ∙ encodes-chars bs text))
 
@@ -92,6 +92,6 @@ module _ (form : EncodingForm) where
   pub units-lossy_by : (policy : Policy) (bs : List ℕ) → length (encode form (lossy_by policy (utf8_items bs))) ≤ length bs
   units-lossy_by policy bs = omega (arith, by-short policy (utf8_items bs), units-of_parts bs (utf8_items bs) (utf8_items-divide bs))
 
-  -- units converted to another width are at most four times as many
+  -- Units converted to another width are at most four times as many.
   pub units-between : (other : EncodingForm) (us : List ℕ) → IsWellFormed form us → length (encode other (chars form us)) ≤ 4 * length us
   units-between other us well = omega (arith, units-of_text_in other (chars form us), bytes-well_formed us well)

@@ -12,7 +12,7 @@ use Rattle.wide_forms.specs.Laws.Forms.{some_units}
 use Rattle.wide_forms.specs.Laws.Utf8.{utf8-encode_utf8_all}
 use Rattle.widestring_c.proofs.Buffers.{Puts, one_more_of}
 
--- a character has at most four bytes
+-- A character has at most four bytes.
 four_bytes : (c : ℕ) → length (utf8_bytes c) ≤ 4
 unfolding utf8_bytes
 four_bytes c = grind (arith, nat_tests)
@@ -25,7 +25,7 @@ bytes_of form (c ∷ cs) =
 pub few_bytes : (form : EncodingForm) (bs : List ℕ) → IsUtf8 bs → length bs ≤ 4 * length (encode form (chars bs))
 few_bytes form bs text = omega (arith, bytes_of form (chars bs), ap length (utf8-encode_utf8_all (chars bs) ∙ encodes-chars bs text))
 
--- what is written at the start of a subslice is after what is before the subslice
+-- What is written at the start of a subslice is after what is before the subslice.
 pub take-window : {X : Type 0} (xs ys : List X) (at len n : ℕ) → at ≤ length xs → n ≤ length ys → take (at + n) (put_mid at len xs ys) ≡ take at xs ++ take n ys
 take-window xs ys at len n within short =
     let parts : put_mid at len xs ys ≡ (take at xs ++ take n ys) ++ (drop n ys ++ post_of at len xs) =
@@ -36,13 +36,13 @@ take-window xs ys at len n within short =
 pub length-window : {X : Type 0} (xs ys : List X) (at len : ℕ) → at + len ≤ length xs → length ys ≡ len → length (put_mid at len xs ys) ≡ length xs
 length-window xs ys at len within long = omega (arith, within, long, length-append (take at xs) (ys ++ post_of at len xs), length-append ys (post_of at len xs), length-take at xs, length-drop at xs, length-drop len (drop at xs))
 
--- the units that are written at the start of a subslice are the next ones of the result
+-- The units that are written at the start of a subslice are the next ones of the result.
 pub one_window : {X : Type 0} (number : X → ℕ) (first : List ℕ) (from : ℕ) (all : List ℕ) (old ys : List X) (rest : List ℕ) (at len n : ℕ) → Puts first from all at (map number old) (map number (take n ys) ++ rest)
     → at + len ≤ length old → length old < 2 ^ 64 - 1 → length ys ≡ len → n ≤ len → Puts first from all (at + n) (map number (put_mid at len old ys)) rest
 one_window number first from all old ys rest at len n puts within space long short =
     one_more_of number first from all old (put_mid at len old ys) (take n ys) rest at (at + n) puts (omega (arith, within, space, long, short, length-take n ys)) (λ fits. take-window old ys at len n (omega arith) (omega (arith, long, short))) (length-window old ys at len within long)
 
--- elements after `end` are unchanged if those after `at` are, and `at ≤ end`
+-- Elements after `end` are unchanged if those after `at` are, and `at ≤ end`.
 pub drop-later : {X : Type 0} (old new : List X) (at end : ℕ) → at ≤ end → drop at new ≡ drop at old → drop end new ≡ drop end old
 drop-later old new at end later same =
     let sum : at + (end - at) ≡ end = omega (arith, later) in

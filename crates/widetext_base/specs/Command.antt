@@ -12,14 +12,14 @@ use Rattle.wide_error.specs.declared.error.TranscodeError.{TranscodeError}
 use Rattle.wide_forms.specs.declared.policy.Policy.{Policy}
 use Rattle.wide_forms.specs.declared.policy.Policy.TheVariants.{Each, Run, Skip}
 
--- the argument, by its bytes, that asks for lossy text under a policy
+-- The argument, by its bytes, that asks for lossy text under a policy.
 abbrev pub IsOption : Policy → List ℕ → Type 0
 IsOption Each word = (word ≡ codes "--lossy") ⊎ (word ≡ codes "--lossy=each")
 IsOption Run word = word ≡ codes "--lossy=run"
 IsOption Skip word = word ≡ codes "--lossy=skip"
 
 module _ {A : Type 0} where
-  -- the subcommand `utf8`: alone, or followed by the option of a policy
+  -- The subcommand `utf8`: alone, or followed by the option of a policy.
   abbrev pub AsksForUtf8 : Option Policy → List (String A) → Type 0
   AsksForUtf8 None [] = ⊥
   AsksForUtf8 None (word ∷ []) = string_bytes word ≡ codes "utf8"
@@ -29,25 +29,25 @@ module _ {A : Type 0} where
   AsksForUtf8 (Some policy) (word ∷ option ∷ []) = (string_bytes word ≡ codes "utf8") × IsOption policy (string_bytes option)
   AsksForUtf8 (Some policy) (word ∷ option ∷ third ∷ others) = ⊥
 
-  -- the arguments do not ask for `utf8`, neither strictly nor by any policy
+  -- The arguments do not ask for `utf8`, neither strictly nor by any policy.
   abbrev pub AsksForNoUtf8 : List (String A) → Type 0
   AsksForNoUtf8 words = (policy : Option Policy) → ¬ (AsksForUtf8 policy words)
 
--- 0 is success, 1 is an error
+-- 0 is success, 1 is an error.
 abbrev pub status_of : {T E : Type 0} → Result T E → ℕ
 status_of (Ok u) = 0
 status_of (Err e) = 1
 
--- a prefix of these bytes was written
+-- A prefix of these bytes was written.
 abbrev pub AppendsPrefix : Option (List ℕ) → Option (List ℕ) → List ℕ → Type 0
 AppendsPrefix held held' bytes = (written : List ℕ) × Appends held held' written × IsBeginningOf written bytes
 
--- a line of this text was written, or a prefix of the line
+-- A line of this text was written, or a prefix of the line.
 abbrev pub Says : Option (List ℕ) → Option (List ℕ) → List ℕ → Type 0
 Says held held' text = AppendsPrefix held held' (text ++ codes "\n")
 
--- one run of `transcode` or, under a policy, of `transcode_with`: the bytes that its devices had left or held before
--- and after, whether they have ended or failed, what the fault stream held before and after, and the exit status
+-- One run of `transcode` or, under a policy, of `transcode_with`: the bytes that its devices had left or held before
+-- and after, whether they have ended or failed, what the fault stream held before and after, and the exit status.
 pub record Utf8Run (policy : Option Policy) (left left' held held' : Option (List ℕ)) (ended read_failed write_failed : Bool) (said said' : Option (List ℕ)) (status : ℕ) : Type 0 where
   pub answer : Result (Unit {0}) TranscodeError
   pub bytes : List ℕ

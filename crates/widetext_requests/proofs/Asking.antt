@@ -39,7 +39,7 @@ edits_no_utf8 (word ∷ []) asks = absurd asks
 edits_no_utf8 (word ∷ text ∷ []) asks = no_utf8_of_two word text asks
 edits_no_utf8 (word ∷ text ∷ third ∷ others) asks = no_utf8_of_more word text third others
 
--- the arguments of a request of `edit` ask for it
+-- The arguments of a request of `edit` ask for it.
 pub asked_edit : {A E : Type 0} (words : List (String A)) (word first : String A) (text : List ℕ) (r : Result (Option Request) E) → 2 ≤ length words → word ≡ get_or words 0 word → first ≡ get_or words 1 first
     → string_bytes word ≡ codes "edit" → text ≡ string_bytes first → IfOk r (λ o. IfSome o (IsEditOf text (take (length words - 2) (drop 2 words)))) → IfOk r (λ o. IfSome o (IsAskedBy words))
 asked_edit [] word first text r long word_is first_is edit same is = absurd (omega arith)
@@ -55,7 +55,7 @@ asked_edit (w ∷ f ∷ rest) word first text (Ok (Some (Edit t read))) long wor
 letters_apart : (a b : ℕ) → a ≡ b → a < b → ⊥
 letters_apart a b same less = absurd (omega arith)
 
--- a request of three arguments that begin with `ends` is one of `ends`
+-- A request of three arguments that begin with `ends` is one of `ends`.
 pub asked_ends : {A E : Type 0} (words : List (String A)) (word units calls : String A) (u c : List ℕ) (r : Result (Option Request) E) → 3 ≤ length words → length words < 4
     → word ≡ get_or words 0 word → units ≡ get_or words 1 units → calls ≡ get_or words 2 calls → string_bytes word ≡ codes "ends" → u ≡ string_bytes units → c ≡ string_bytes calls
     → ((request : Request) → IsEndsOf u c request → IfOk r (λ o. IsSome o)) → (request : Request) → IsAskedBy words request → IfOk r (λ o. IsSome o)

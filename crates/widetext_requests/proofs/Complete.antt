@@ -24,7 +24,7 @@ use Rattle.widetext_requests.specs.declared.arguments.Request.TheVariants as req
 apart : (a b : ℕ) → a ≡ b → a < b → ⊥
 apart a b same less = absurd (omega arith)
 
--- no digit of a numeral is a separator
+-- No digit of a numeral is a separator.
 pub no_separator : (radix separator : ℕ) (digits : List ℕ) → radix ≤ digit_value separator → AllDigits radix digits → (i : ℕ) → i < length digits → get_or digits i 0 ≢ separator
 no_separator radix separator [] high all i below e = absurd (omega arith)
 no_separator radix separator (d ∷ ds) high all zero below e =
@@ -46,7 +46,7 @@ below_two a b la lb = omega arith
 below_one : (a : ℕ) → a < 16 → 0 * 16 + a < 65536
 below_one a la = omega arith
 
--- at most four hexadecimal digits are a unit
+-- At most four hexadecimal digits are a unit.
 pub unit_fits : (digits : List ℕ) → AllDigits 16 digits → length digits ≤ 4 → digits_value 16 digits < 65536
 unit_fits [] all short = omega arith
 unit_fits (a ∷ []) all short = below_one (digit_value a) all.0
@@ -55,15 +55,15 @@ unit_fits (a ∷ b ∷ c ∷ []) all short = below_three (digit_value a) (digit_
 unit_fits (a ∷ b ∷ c ∷ d ∷ []) all short = below_four (digit_value a) (digit_value b) (digit_value c) (digit_value d) all.0 all.1.0 all.1.1.0 all.1.1.1.0
 unit_fits (a ∷ b ∷ c ∷ d ∷ e ∷ ds) all short = absurd (omega arith)
 
--- at most four hexadecimal digits are parsed as a unit
+-- At most four hexadecimal digits are parsed as a unit.
 pub unit_parsed : {E : Type 0} (digits : List ℕ) (r : Result ℕ E) → ParsesUnsigned 16 16 digits r → IsNumeral 16 digits → length digits ≤ 4 → IsSome (result_ok r)
 unit_parsed digits (Ok n) parses numeral short = refl
 unit_parsed digits (Err e) parses numeral short =
     let first = no_separator 16 43 digits (omega arith) numeral.1 0 numeral.0 in
     absurd (parses (subst (λ ds. IsNumeral 16 ds × (digits_value 16 ds < 65536)) (sym (without_leading_plus_none digits first)) (numeral, unit_fits digits numeral.1 short)))
 
--- if the argument names units, the substring before the first comma is one of them, and what follows the comma names
--- the others
+-- If the argument names units, the substring before the first comma is one of them, and what follows the comma names
+-- the others.
 pub record NextUnit (piece : List ℕ) (more : Bool) (rest : List ℕ) : Type 0 where
   pub unit : ℕ
   pub is : IsUnit piece unit
@@ -105,7 +105,7 @@ next_unit word piece more rest (u ∷ v ∷ us) cut are = first_unit word piece 
 
 -- ---- ends
 
--- a letter of an argument that names ends is the letter of an end
+-- A letter of an argument that names ends is the letter of an end.
 pub end_of : (ends found : List End) (letter : ℕ) (rest : List ℕ) → map end_letter found ++ letter ∷ rest ≡ map end_letter ends → (letter ≡ 70) ⊎ (letter ≡ 66)
 end_of [] [] letter rest e = let no : ⊥ = cc in absurd no
 end_of [] (f ∷ found) letter rest e = let no : ⊥ = cc in absurd no
@@ -119,7 +119,7 @@ asks_ends units calls (request.Edit text read) is = absurd is
 
 -- ---- edits
 
--- a character takes at least one byte, and there are no bytes after its own
+-- A character takes at least one byte, and there are no bytes after its own.
 pub no_char : (text : List ℕ) (c : ℕ) → text ≡ encode_utf8 c → length text ≡ 0 → ⊥
 no_char text c e empty = absurd (omega (arith, ap length e, length-encode c, (len_utf8_bounds c).0))
 
@@ -128,16 +128,16 @@ one_char text rest others c first second e starts goes =
     let none = (encode_same c first [] rest (append-nil (encode_utf8 c) ∙ sym e ∙ starts)).1 in
     absurd (omega (arith, ap length none, ap length goes, length-append (encode_utf8 second) others, length-encode second, (len_utf8_bounds second).0))
 
--- a text of one character and no more bytes
+-- A text of one character and no more bytes.
 pub alone : (text whole rest : List ℕ) (c : ℕ) → whole ≡ text → whole ≡ encode_utf8 c ++ rest → length rest ≡ 0 → text ≡ encode_utf8 c
 alone text whole [] c e starts none = sym e ∙ starts ∙ append-nil (encode_utf8 c)
 alone text whole (b ∷ rest) c e starts none = absurd (omega arith)
 
--- the text is split at the comma after a number
+-- The text is split at the comma after a number.
 pub after_number : (values : List ℕ) (r : Option (Bor (List ℕ) × Bor (List ℕ))) (n : ℕ) (rest : List ℕ) → IsSplitOnceResult 44 values r → (is : IsNumberThen values n rest) → MatchOption r ⊥ (λ x. (x.0.now ≡ is.0) × (x.1.now ≡ rest))
 after_number values r n rest cut is = split_after 44 values is.0 rest r cut (omega arith) is.1 (no_separator 10 44 is.0 (omega arith) is.2.0.1)
 
--- the first number of an edit whose first number is followed by more values
+-- The first number of an edit whose first number is followed by more values.
 pub number_at : (name values : List ℕ) (found : Edit) → HasTypes found → IsNamedAt name values found → (n : ℕ) × (rest : List ℕ) × (n < 2 ^ 64) × IsNumberThen values n rest
 number_at name values (Push c) types is = absurd is
 number_at name values (PushStr t) types is = absurd is
@@ -195,7 +195,7 @@ replaced name values (Replace a b t) types replace is = (a, b, is.1.0, t.now, ty
 replaced name values (SplitOff i) types replace is = absurd is
 replaced name values Clear types replace is = absurd is
 
--- each argument is related to what was read from it, by its index
+-- Each argument is related to what was read from it, by its index.
 pub each_at : {X Y : Type 0} (R : X → Y → Type 0) (xs : List X) (ys : List Y) (i : ℕ) (x : X) (y : Y) → AreEach R xs ys → i < length xs → (i < length ys) × R (get_or xs i x) (get_or ys i y)
 each_at R [] ys i x y are below = absurd (omega arith)
 each_at R (a ∷ xs) [] i x y are below = absurd are

@@ -16,7 +16,7 @@ module _ {X Y : Type 0} (R : X → Y → Type 0) where
   pub one_each_more : (xs : List X) (i : ℕ) (d : X) (ys : List Y) (y : Y) → i < length xs → AreEach R (take i xs) ys → R (get_or xs i d) y → AreEach R (take (i + 1) xs) (ys ++ y ∷ [])
   one_each_more xs i d ys y below are is = rw (take_more xs i d below) (each_more (take i xs) ys (get_or xs i d) y are is)
 
--- an argument of a name and values names their edit
+-- An argument of a name and values names their edit.
 pub names_edit : (bytes name values : List ℕ) (found : Edit) → bytes ≡ name ++ 61 ∷ values → IsNamed name values found → NamesEdit bytes found
 names_edit bytes name values (Push c) e is = (name, values, e, is)
 names_edit bytes name values (PushStr t) e is = (name, values, e, is)
@@ -31,7 +31,7 @@ names_edit bytes name values (Replace a b t) e is = (name, values, e, is)
 names_edit bytes name values (SplitOff i) e is = (name, values, e, is)
 names_edit bytes name values Clear e is = absurd is.1
 
--- one more character of those to retain
+-- One more character of those to retain.
 pub keeps_more : (keep new rest rest' whole : List ℕ) (c : ℕ) → encode_utf8_all keep ++ rest ≡ whole → rest ≡ encode_utf8 c ++ rest' → new ≡ keep ++ c ∷ [] → encode_utf8_all new ++ rest' ≡ whole
 keeps_more keep new rest rest' whole c so_far step e =
     ap (λ ks. encode_utf8_all ks ++ rest') e ∙ ap (λ bs. bs ++ rest') (encodes-append keep (c ∷ []) ∙ ap (λ bs. encode_utf8_all keep ++ bs) (append-nil (encode_utf8 c)))

@@ -8,8 +8,8 @@ use Rattle.wide_forms.specs.Utf8.{utf8, utf8_bytes}
 use Rattle.wide_forms.specs.Laws.Utf8.{utf8_bytes-encode_utf8}
 use Rattle.widetext_requests.specs.Lines.{escaped}
 
--- with one more element, what is written for it is after what was written before, if writing distributes over
--- concatenation
+-- With one more element, what is written for it is after what was written before, if writing distributes over
+-- concatenation.
 pub more_of : {X : Type 0} (written : List X → List ℕ) (joins : (a b : List X) → written (a ++ b) ≡ written a ++ written b) (xs : List X) (i : ℕ) (d : X) (before old new : List ℕ) → i < length xs
     → old ≡ before ++ written (take i xs) → new ≡ old ++ written (get_or xs i d ∷ []) → new ≡ before ++ written (take (i + 1) xs)
 more_of written joins xs i d before old new below so_far e =
@@ -27,11 +27,11 @@ read_more line read xs i d before old new below so_far e =
     more_of (λ ys. flat_map line (map read ys)) (λ a b. ap (flat_map line) (map-append read a b) ∙ flat_map-append line (map read a) (map read b)) xs i d before old new below so_far
     (e ∙ ap (λ bs. old ++ bs) (sym (append-nil (line (read (get_or xs i d))))))
 
--- the escapes of a concatenation are the escapes of both lists
+-- The escapes of a concatenation are the escapes of both lists.
 pub escaped-join : (a b : List ℕ) → escaped (a ++ b) ≡ escaped a ++ escaped b
 escaped-join a b = ap utf8 (flat_map-append escape_default a b) ∙ flat_map-append utf8_bytes (flat_map escape_default a) (flat_map escape_default b)
 
--- one more character of an escape
+-- One more character of an escape.
 pub escape_more : (old new whole left xs : List ℕ) (x : ℕ) → old ++ utf8 left ≡ whole → left ≡ x ∷ xs → new ≡ old ++ encode_utf8 x → new ++ utf8 xs ≡ whole
 escape_more old new whole left xs x so_far first e =
     ap (λ bs. bs ++ utf8 xs) e ∙ append_assoc old (encode_utf8 x) (utf8 xs) ∙ ap (λ bs. old ++ (bs ++ utf8 xs)) (sym (utf8_bytes-encode_utf8 x)) ∙ ap (λ l. old ++ utf8 l) (sym first) ∙ so_far

@@ -7,32 +7,32 @@ use Rattle.wide_edit.specs.declared.edits.Edit.TheVariants.{Push, PushStr, Pop, 
 use Rattle.widetext_requests.specs.declared.edit_arguments.EditArgument.{EditArgument}
 use Rattle.widetext_requests.specs.declared.edit_arguments.EditArgument.TheVariants as word
 
--- the edit of a parsed argument: `Retain` has the list of the characters to retain
+-- The edit of a parsed argument: `Retain` has the list of the characters to retain.
 abbrev pub IsEdit : EditArgument → edit.Edit → Type 0
 IsEdit (word.Whole e) found = found ≡ e
 IsEdit (word.Retain keep) (Retain kept) = kept.now ≡ keep.items
 IsEdit (word.Retain keep) found = ⊥
 
--- each element of a list is related to the one with the same index in another list
+-- Each element of a list is related to the one with the same index in another list.
 abbrev pub AreEach : {X Y : Type 0} → (X → Y → Type 0) → List X → List Y → Type 0
 AreEach R [] [] = Unit {0}
 AreEach R [] (y ∷ ys) = ⊥
 AreEach R (x ∷ xs) [] = ⊥
 AreEach R (x ∷ xs) (y ∷ ys) = R x y × AreEach R xs ys
 
--- the edits of parsed arguments, one of each
+-- The edits of parsed arguments, one of each.
 abbrev pub AreEdits : List EditArgument → List edit.Edit → Type 0
 AreEdits words edits = AreEach IsEdit words edits
 
--- a decimal number
+-- A decimal number.
 abbrev pub IsNumber : List ℕ → ℕ → Type 0
 IsNumber digits n = IsNumeral 10 digits × (digits_value 10 digits ≡ n)
 
--- a decimal number, a comma and more
+-- A decimal number, a comma and more.
 abbrev pub IsNumberThen : List ℕ → ℕ → List ℕ → Type 0
 IsNumberThen values n rest = (digits : List ℕ) × (values ≡ digits ++ 44 ∷ rest) × IsNumber digits n
 
--- the name of an edit
+-- The name of an edit.
 abbrev pub edit_name : edit.Edit → List ℕ
 edit_name (Push c) = codes "push"
 edit_name (PushStr t) = codes "pushstr"
@@ -47,7 +47,7 @@ edit_name (Replace a b t) = codes "replace"
 edit_name (SplitOff i) = codes "splitoff"
 edit_name Clear = codes "clear"
 
--- what is after the name and the equals sign of an edit that has values
+-- What is after the name and the equals sign of an edit that has values.
 abbrev pub AreValues : List ℕ → edit.Edit → Type 0
 AreValues values (Push c) = values ≡ encode_utf8 c
 AreValues values (PushStr t) = values ≡ t.now
@@ -62,11 +62,11 @@ AreValues values (Replace a b t) = (rest : List ℕ) × IsNumberThen values a re
 AreValues values (SplitOff i) = IsNumber values i
 AreValues values Clear = ⊥
 
--- the edit has this name and these values
+-- The edit has this name and these values.
 abbrev pub IsNamed : List ℕ → List ℕ → edit.Edit → Type 0
 IsNamed name values found = (name ≡ edit_name found) × AreValues values found
 
--- the edit has this name and these values, and its first number is followed by more values
+-- The edit has this name and these values, and its first number is followed by more values.
 abbrev pub IsNamedAt : List ℕ → List ℕ → edit.Edit → Type 0
 IsNamedAt name values (Push c) = ⊥
 IsNamedAt name values (PushStr t) = ⊥
@@ -81,18 +81,18 @@ IsNamedAt name values (Replace a b t) = IsNamed name values (Replace a b t)
 IsNamedAt name values (SplitOff i) = ⊥
 IsNamedAt name values Clear = ⊥
 
--- an argument names an edit: `pop` and `clear` are only a name, others are a name, an equals sign and values
+-- An argument names an edit: `pop` and `clear` are only a name, others are a name, an equals sign and values.
 abbrev pub NamesEdit : List ℕ → edit.Edit → Type 0
 NamesEdit bytes Pop = bytes ≡ codes "pop"
 NamesEdit bytes Clear = bytes ≡ codes "clear"
 NamesEdit bytes found = (name : List ℕ) × (values : List ℕ) × (bytes ≡ name ++ 61 ∷ values) × IsNamed name values found
 
--- an argument names what was parsed from it
+-- An argument names what was parsed from it.
 abbrev pub NamesArgument : List ℕ → EditArgument → Type 0
 NamesArgument bytes (word.Whole found) = NamesEdit bytes found
 NamesArgument bytes (word.Retain keep) = bytes ≡ codes "retain=" ++ encode_utf8_all keep.items
 
--- the values of an edit are of their types: numbers of 64 bits, and Unicode scalar values
+-- The values of an edit are of their types: numbers of 64 bits, and Unicode scalar values.
 abbrev pub HasTypes : edit.Edit → Type 0
 HasTypes (Push c) = IsScalar c
 HasTypes (PushStr t) = Unit {0}
@@ -107,7 +107,7 @@ HasTypes (Replace a b t) = (a < 2 ^ 64) × (b < 2 ^ 64)
 HasTypes (SplitOff i) = i < 2 ^ 64
 HasTypes Clear = Unit {0}
 
--- the values of a parsed argument are of their types
+-- The values of a parsed argument are of their types.
 abbrev pub ArgumentHasTypes : EditArgument → Type 0
 ArgumentHasTypes (word.Whole found) = HasTypes found
 ArgumentHasTypes (word.Retain keep) = Unit {0}

@@ -12,25 +12,25 @@ use Rattle.wide_iter.specs.declared.ends.End.{End}
 use Rattle.wide_edit.specs.Step as step
 use Rattle.wide_edit.specs.declared.edits.Edit.{Edit}
 
--- a number in upper-case hexadecimal, padded with zeros to a number of digits
+-- A number in upper-case hexadecimal, padded with zeros to a number of digits.
 abbrev pub padded_hex : ℕ → ℕ → List ℕ
 padded_hex width n = replicate (width - length (digits 16 true n)) 48 ++ digits 16 true n
 
--- the line of an item, or of none
+-- The line of an item, or of none.
 abbrev pub answer_line : Option Item → List ℕ
 answer_line (Some (Char c)) = codes "U+" ++ (padded_hex 4 c ++ codes "\n")
 answer_line (Some (Fault u)) = codes "fault " ++ (digits 16 false u ++ codes "\n")
 answer_line None = codes "none\n"
 
--- the lines of the items that a decoder of the units returns at the ends
+-- The lines of the items that a decoder of the units returns at the ends.
 abbrev pub ends_lines : List ℕ → List End → List ℕ
 ends_lines us ends = flat_map answer_line (answers (items Utf16 us) ends)
 
--- characters, each as `char::escape_default` escapes it
+-- Characters, each as `char::escape_default` escapes it.
 abbrev pub escaped : List ℕ → List ℕ
 escaped cs = utf8 (flat_map escape_default cs)
 
--- the line of an edit's reply
+-- The line of an edit's reply.
 abbrev pub reply_line : step.ReplyData → List ℕ
 reply_line step.Done = codes "done\n"
 reply_line (step.Char c) = codes "char " ++ (escaped (c ∷ []) ++ codes "\n")
@@ -39,30 +39,30 @@ reply_line (step.Chars cs) = codes "chars " ++ (escaped cs ++ codes "\n")
 reply_line step.BadPlace = codes "badplace\n"
 reply_line step.BadRange = codes "badrange\n"
 
--- the line of a text
+-- The line of a text.
 abbrev pub text_line : List ℕ → List ℕ
 text_line cs = codes "text " ++ (escaped cs ++ codes "\n")
 
--- a space, and a unit of a number of digits
+-- A space, and a unit of a number of digits.
 abbrev pub spaced_unit : ℕ → ℕ → List ℕ
 spaced_unit width u = 32 ∷ padded_hex width u
 
--- a line of units, after its name
+-- A line of units, after its name.
 abbrev pub units_line : List ℕ → ℕ → List ℕ → List ℕ
 units_line name width us = name ++ (flat_map (spaced_unit width) us ++ codes "\n")
 
--- the line of a text, and those of units in UTF-16 and in UTF-32
+-- The line of a text, and those of units in UTF-16 and in UTF-32.
 abbrev pub string_lines : List ℕ → List ℕ → List ℕ → List ℕ
 string_lines cs narrow wide = text_line cs ++ (units_line (codes "utf16") 4 narrow ++ units_line (codes "utf32") 8 wide)
 
--- the lines of replies, and then those of the text and of the units of two strings
+-- The lines of replies, and then those of the text and of the units of two strings.
 abbrev pub result_lines : List step.ReplyData → List ℕ → List ℕ → List ℕ → List ℕ
 result_lines replies cs narrow wide = flat_map reply_line replies ++ string_lines cs narrow wide
 
--- the lines of replies, and then those of a text and of its own units
+-- The lines of replies, and then those of a text and of its own units.
 abbrev pub text_lines : List step.ReplyData → List ℕ → List ℕ
 text_lines replies cs = result_lines replies cs (encode Utf16 cs) (encode Utf32 cs)
 
--- the lines of the replies to the edits of a text, and then those of the resulting text
+-- The lines of the replies to the edits of a text, and then those of the resulting text.
 abbrev pub edit_lines : List ℕ → List Edit → List ℕ
 edit_lines cs edits = text_lines (step.meaning cs edits).1 (step.meaning cs edits).0

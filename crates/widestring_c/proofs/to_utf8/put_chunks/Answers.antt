@@ -6,7 +6,7 @@ use Rattle.wide_from_units.proofs.Utf8Texts.{no_text}
 use Rattle.widestring_c.proofs.Buffers.{after_more, counted_end, is_none, next_part, nothing_yet, shorter, written_end}
 use Rattle.widestring_c.proofs.to_utf8.put_chunks.Goals as goal
 
--- the text that is left after what was read
+-- The text that is left after what was read.
 text_left : {X : Type 0} (form : EncodingForm) (number : X → ℕ) (rest left : List X) (read : ℕ) (chunk : List ℕ) → left ≡ drop read rest → utf8 (chars form (map number rest)) ≡ chunk ++ utf8 (chars form (map number (drop read rest))) → utf8 (chars form (map number rest)) ≡ chunk ++ utf8 (chars form (map number left))
 text_left form number rest left read chunk is text = subst (λ us. utf8 (chars form (map number rest)) ≡ chunk ++ utf8 (chars form (map number us))) (sym is) text
 
