@@ -73,7 +73,8 @@ fn ascii_len(text: &[u8]) -> usize
     len
 }
 
-// Returns whether each of the last 64 bytes of a block may follow the three bytes before it, by the rules alone.
+// Returns whether each of the last 64 bytes of a block may follow the three bytes before it (Unicode Standard, Table
+// 3-7), without a test for ASCII first.
 #[inline(always)]
 fn can_follow_by_rules(block: &[u8]) -> bool
     requires { length block.now ≡ 67 }
@@ -134,7 +135,7 @@ fn whole_len(text: &[u8], end: usize) -> usize
 }
 
 // Returns the length in bytes of a well-formed prefix: all characters that are complete in the blocks before the first
-// block that breaks a rule. It is 0 for fewer than 64 bytes. The caller checks the rest.
+// block with a byte that cannot follow those before it. It is 0 for fewer than 64 bytes. The caller checks the rest.
 fn checked_len(text: &[u8]) -> usize
     ensures within { result ≤ length text.now }
     ensures text { IsUtf8 (take result text.now) }

@@ -62,19 +62,19 @@ marked_code =
     code_by (Units ℕ × ℕ) (coded× (units_code coded_ℕ) coded_ℕ) (λ m. (m.string, m.index_capacity))
     (λ p. record { string = p.0; index_capacity = p.1 }) (λ _. refl)
 
--- The units of the string.
+-- The units of a string with an offset index.
 abbrev pub marked_units : Marked → List ℕ
 marked_units m = m.string.units
 
--- How many units of the string fit without allocating.
+-- How many units fit into a string with an offset index without allocating.
 abbrev pub marked_capacity : Marked → ℕ
 marked_capacity m = m.string.capacity
 
--- The characters of the string.
+-- The characters of a string with an offset index.
 abbrev pub marked_text : Marked → List ℕ
 marked_text m = chars Utf16 m.string.units
 
--- The new units and the new index entries fit without allocating.
+-- The units and the index entries that the string has after the edit fit without allocating.
 pub record IsMarkedReady (m : Marked) (edit : Edit) : Type 0 where
   pub units : CanHold Utf16 m.string (step (marked_text m) edit).0
   pub marks : length (step (marked_text m) edit).0 / 64 ≤ m.index_capacity

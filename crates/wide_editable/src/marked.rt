@@ -32,8 +32,9 @@ use wide_utfstring::Utf16String;
 /// and so on, and of the end if the number of characters is a positive multiple of 64.
 ///
 /// A character is found by its index from the last entry that is not past it, so that fewer than 64 characters are
-/// read. An edit leaves the entries that are not past its first character unchanged. If it replaces few characters by
-/// few, it moves the later entries. Otherwise it computes them again, from the last unchanged entry on.
+/// read. An edit leaves the entries that are not past its first character unchanged. If it replaces at most 31
+/// characters by at most 31, it moves the later entries. Otherwise it computes them again, from the last unchanged entry
+/// on.
 ///
 /// # Example
 ///
@@ -160,8 +161,8 @@ fn recount(text: Utf16Str<'_>, marks: &mut Vec<usize>, unchanged: usize, steps: 
 }
 
 // Updates the entries to a text whose characters in a range were replaced. The text had `count` characters and `units`
-// units before. If few characters were replaced by few, the entries after them are moved. Otherwise the first
-// `unchanged` entries are left, and the others are computed again.
+// units before. If at most 31 characters were replaced by at most 31, the entries after them are moved. Otherwise the
+// first `unchanged` entries are left, and the others are computed again.
 fn update(
     text: Utf16Str<'_>,
     marks: &mut Vec<usize>,

@@ -212,8 +212,8 @@ fn split_off<C: FaultUnit>(
 {
     match found {
         Some(at) => {
-            let (_prefix, back) = s.as_utfstr().split_at(at);
-            let taken = copy(back, space);
+            let (_prefix, suffix) = s.as_utfstr().split_at(at);
+            let taken = copy(suffix, space);
             s.truncate(at);
             Reply::Chars(taken)
         }
@@ -230,7 +230,8 @@ fn clear<C: FaultUnit>(s: &mut UtfString<C>) -> Reply
     Reply::Done
 }
 
-// Makes the edit at the offsets of its indices, `start` and `end`, in memory that was allocated for it.
+// Makes the edit in memory that was allocated for it. `start` and `end` are the offsets of the characters at its indices,
+// or `None` past the end.
 pub(crate) fn apply_at<C: FaultUnit>(
     s: &mut UtfString<C>,
     edit: Edit<'_>,

@@ -188,8 +188,8 @@ NoUnitsNoLines = (form : EncodingForm) → lines_of (items form []) ≡ []
 abbrev pub UnendedIsOneLine : Type 0
 UnendedIsOneLine = (form : EncodingForm) (us : List ℕ) → us ≢ [] → All (λ u. u ≢ line_feed) us → lines_of (items form us) ≡ items form us ∷ []
 
--- The first line feed among the units ends the first line, which loses a carriage return at its end. The lines after it
--- are those of the units after it.
+-- The first line feed among the units ends the first line, which loses a carriage return at its end. The other lines
+-- are those of the units after the line feed.
 abbrev pub FeedEndsLine : Type 0
 FeedEndsLine = (form : EncodingForm) (prefix suffix : List ℕ) → All (λ u. u ≢ line_feed) prefix
     → lines_of (items form (prefix ++ line_feed ∷ suffix)) ≡ without_return (items form prefix) ∷ lines_of (items form suffix)
@@ -214,7 +214,7 @@ SkipGivesNone = (us : List ℕ) → lossy_by Skip (map Fault us) ≡ []
 abbrev pub RunsGoOn : Type 0
 RunsGoOn = (a b : List Item) (u : ℕ) → lossy_by Run (a ++ Fault u ∷ b) ≡ lossy_by Run (a ++ Fault u ∷ []) ++ lossy_by Run (past_faults b)
 
--- Lossy text after no fault is lossy text.
+-- If no fault precedes the items, `lossy_after` gives their lossy text under the policy.
 abbrev pub LossyAfterNone : Type 0
 LossyAfterNone = (policy : Policy) (is : List Item) → lossy_after policy false is ≡ lossy_by policy is
 

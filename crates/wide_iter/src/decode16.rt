@@ -34,8 +34,9 @@ use wide_unit::Unit;
 #[derive(Debug, Drop)]
 pub struct DecodeUtf16<I> {
     source: Source<I>,
-    // The lookahead at each end: a unit that was read past an unpaired surrogate and is not yet decoded.
+    // The lookahead at the front: a unit that was read past an unpaired surrogate and is not yet decoded.
     front: Option<u16>,
+    // The lookahead at the back: a unit that was read before an unpaired surrogate and is not yet decoded.
     back: Option<u16>,
 }
 

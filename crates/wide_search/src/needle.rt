@@ -20,7 +20,7 @@ pub(crate) struct Probe<C> {
     pub(crate) distance: usize,
 }
 
-// The units of a needle.
+// What a search needs of a needle.
 pub(crate) trait Needle<C: Unit>: Copy {
     // The needle's units.
     ghost sought: { Self → List C };
@@ -37,8 +37,8 @@ pub(crate) trait Needle<C: Unit>: Copy {
     fn is_prefix_of(self, units: &[C]) -> bool
         ensures { IsTrue result ↔ OccursAt (sought self) units.now 0 };
 
-    // Returns whether the units begin with the needle, given that their first unit is its first one, which is not
-    // compared again.
+    // Returns whether the units begin with the needle, given that their first unit is the needle's first unit, which is
+    // not compared again.
     fn is_prefix_after_first(self, units: &[C]) -> bool
         requires { take 1 (sought self) ≡ take 1 units.now }
         ensures { IsTrue result ↔ OccursAt (sought self) units.now 0 };

@@ -17,8 +17,8 @@ use crate::pairs::first_pair;
 use crate::two_way::{Stop, find_two_way};
 use wide_unit::{Unit, first_of};
 
-// Returns an offset of at most `count` before which no needle with these two units occurs. It is the first at which
-// both match, or `count`.
+// Returns the first offset at which the first and the last unit of a needle both match, or `count`. No needle with this
+// first and this last unit occurs before it.
 #[inline(always)]
 fn skip<C: Unit>(units: &[C], count: usize, probe: Probe<C>) -> usize
     requires { count + probe.distance ≤ length units.now }
@@ -26,9 +26,9 @@ fn skip<C: Unit>(units: &[C], count: usize, probe: Probe<C>) -> usize
     ensures before { (needle : List C) → IsProbe needle probe → (k : ℕ) → k < result → ¬ (OccursAt needle units.now k) }
 {
     let (_, rest) = units.split_at(probe.distance);
-    let (back, _) = rest.split_at(count);
-    let (front, _) = units.split_at(count);
-    first_pair(front, back, probe.first, probe.last)
+    let (lasts, _) = rest.split_at(count);
+    let (firsts, _) = units.split_at(count);
+    first_pair(firsts, lasts, probe.first, probe.last)
 }
 
 // Searches on from an offset before which the needle does not occur, offset by offset. It makes `tries` tries, or fewer
@@ -83,8 +83,8 @@ fn find_each<C: Unit, P: Needle<C>>(
     (Stop::unfound(at), all_matched)
 }
 
-// Returns the offset at which a search by two units from `from` on ends. The needle's last unit, which is at `distance`
-// from the first, is not looked for beyond the end of the units.
+// Returns the offset at which a search for the needle's first and last unit, from `from` on, ends. The last unit, which
+// is at `distance` from the first, is not looked for beyond the end of the units.
 #[inline(always)]
 fn end_by_two<C: Unit>(units: &[C], from: usize, distance: usize) -> usize
     ensures { result ≤ length units.now - distance }
@@ -94,7 +94,8 @@ fn end_by_two<C: Unit>(units: &[C], from: usize, distance: usize) -> usize
     from.saturating_add(most.max(OFFSETS_BY_PAIRS)).min(last)
 }
 
-// Returns how many tries at the first unit of a needle of `len` units follow a search by two units that saved no time.
+// Returns how many tries at the first unit of a needle of `len` units follow a search for its first and last unit that
+// saved no time.
 #[inline(always)]
 fn tries_in_place(len: usize) -> usize
     ensures { 0 < result }

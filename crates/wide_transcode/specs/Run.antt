@@ -14,9 +14,9 @@ abbrev pub IsAllButReplacement : List ℕ → List ℕ → Type 0
 IsAllButReplacement prefix whole = (whole ≡ prefix) ⊎ (whole ≡ prefix ++ utf8 (0xFFFD ∷ []))
 
 -- The `bytes` were taken from the source, and the `written` ones were put into the sink.
-pub record Moves (left left' pending pending' : Option (List ℕ)) (bytes written : List ℕ) : Type 0 where
+pub record Moves (left left' held held' : Option (List ℕ)) (bytes written : List ℕ) : Type 0 where
   pub given : Consumes left left' bytes
-  pub put : Appends pending pending' written
+  pub put : Appends held held' written
 
 -- No byte is left if the run read to the end: at Ok and at an odd length.
 abbrev pub AtEnd : {T : Type 0} → Result T TranscodeError → Option (List ℕ) → Type 0
@@ -47,8 +47,8 @@ MayBePaired Clean units = Unit {0}
 MayBePaired HalfUnit units = Unit {0}
 MayBePaired (Unpaired index item unit) units = (index + 1 ≡ length units) × IsHighSurrogate Utf16Form unit
 
--- Once no further unit can make a pair of it, a fault is reported before the next read: no read that failed or found
--- the end followed such a fault. `ending` and `units` are those of the bytes that were read.
+-- A fault that no further unit can pair is reported before the next read. So if a read failed or found the end, no such
+-- fault preceded it. `ending` and `units` are those of the bytes that were read.
 abbrev pub ReportsFault : {T : Type 0} → Result T TranscodeError → Bool → Ending → List ℕ → Type 0
 ReportsFault (Ok u) ended ending units = Unit {0}
 ReportsFault (Err Read) ended ending units = MayBePaired ending units

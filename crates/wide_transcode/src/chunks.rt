@@ -23,7 +23,7 @@ const CHUNK_UNITS: usize = CHUNK_BYTES / 2;
 // overwrite.
 const TEXT_CAPACITY: usize = 3 * CHUNK_UNITS + 64;
 
-// One more than the greatest index of a unit.
+// 2^64: the index of a unit does not fit into a `usize` from here on.
 const INDEX_LIMIT: u128 = 0x1_0000_0000_0000_0000;
 
 // Moves the bytes from `from` up to `to` to the beginning.
@@ -52,8 +52,8 @@ fn fault_at(offset: u128, item: u128, unit: u16) -> TranscodeError
     }
 }
 
-// Returns the result at the end of the input without a policy, after `offset` units, which are `item` characters.
-// `rest` are the bytes that were not encoded.
+// Returns the result of a strict run at the end of the input, after `offset` units, which are `item` characters. `rest`
+// are the bytes that were not encoded.
 fn finish_strict(order: BoM, rest: &[u8], offset: u128, item: u128) -> Result<(), TranscodeError>
     requires pending { IsPending order rest.now }
     requires few { item ≤ offset }
@@ -72,12 +72,14 @@ fn finish_strict(order: BoM, rest: &[u8], offset: u128, item: u128) -> Result<()
     Ok(())
 }
 
-// The position in the units of the input, after the BOM, and whether a fault was read last. Without a policy, `item` is
-// the number of characters before the position.
+// A position in the units of the input, after the BOM.
 #[derive(Clone, Copy, Debug)]
 struct Position {
+    // How many units are before the position.
     offset: u128,
+    // How many characters are before the position, in a strict run. Under a policy nothing reads it.
     item: u128,
+    // Whether the last item before the position is a fault. It is false in a strict run.
     after_fault: bool,
 }
 
@@ -140,8 +142,9 @@ pub(crate) fn take_start<S: ByteSource>(
     Ok(pending)
 }
 
-// Transcodes chunk by chunk: all text under a policy, and without a policy the characters before the first fault.
-// `chunk` holds the first `start` bytes. `spare` is read and written only under a policy.
+// Transcodes chunk by chunk: all text under a policy, and in a strict run, which has no policy, the characters before
+// the first fault. `chunk` begins with `start` bytes of the input, those read after the BOM. `spare` is space for the
+// units of lossy text, and unused in a strict run.
 fn transcode_chunks<S: ByteSource, K: ByteSink>(
     order: BoM,
     source: &mut S,

@@ -411,15 +411,15 @@ impl<C: FaultUnit, A: Allocator> UString<C, A> {
         ensures capacity { self.new.capacity ≡ self.old.capacity }
     {
         let units = &mut self.units;
-        let mut kept = 0;
+        let mut retained = 0;
         for at in 0..units.len() {
             let unit = units[at];
             // The unit is written in either case, since a branch by the closure's result is often predicted wrong. One
             // that is not retained is overwritten by the next unit or removed by `truncate`.
-            units[kept] = unit;
-            kept += usize::from(keep(unit));
+            units[retained] = unit;
+            retained += usize::from(keep(unit));
         }
-        units.truncate(kept);
+        units.truncate(retained);
     }
 
     /// Retains the characters for which the closure returns true, in well-formed units. It calls the closure once for
@@ -438,27 +438,27 @@ impl<C: FaultUnit, A: Allocator> UString<C, A> {
     {
         let units = &mut self.units;
         let len = units.len();
-        let mut kept = 0;
+        let mut retained = 0;
         let mut at = 0;
         while at < len {
             let first = units[at];
             if let Some(c) = first.as_scalar() {
                 // The unit is written in either case, since a branch by the closure's result is often predicted wrong.
                 // One that is not retained is overwritten by a later character or removed by `truncate`.
-                units[kept] = first;
-                kept += usize::from(keep(c));
+                units[retained] = first;
+                retained += usize::from(keep(c));
                 at += 1;
             } else {
                 let (c, next) = char_at(units.as_slice(), at);
                 let wanted = keep(c);
                 if wanted {
-                    copy_char(units, at, next, kept);
-                    kept += next - at;
+                    copy_char(units, at, next, retained);
+                    retained += next - at;
                 }
                 at = next;
             }
         }
-        units.truncate(kept);
+        units.truncate(retained);
     }
 
     /// Removes the units of a range and returns an iterator over them, from both ends. The ends of the range are

@@ -89,10 +89,11 @@ fn write_pending<W: fmt::Write>(
     }
 }
 
-// The escapes of the characters of a text: the rest of the escape that was partly read, and the text after its
-// character.
+// The escapes of the characters of a text that are not read yet.
 struct Escapes<'a, C: Unit> {
+    // The text whose characters are still to be escaped.
     rest: UtfStr<'a, C>,
+    // What is left of the escape that was partly read, if there is one.
     current: Option<char::EscapeUnicode>,
     ghost in_bounds: { ForSome current (λ e. escape_end e ≤ 10) },
 }

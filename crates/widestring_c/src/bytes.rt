@@ -177,8 +177,7 @@ pub extern "C" fn wide_utf16_bytes_complete(bytes: &[u8], order: u32) -> usize
 }
 
 /// Converts the whole units of UTF-16 in bytes (Unicode Standard, D96 and D97) to UTF-8, and replaces ill-formed units
-/// by the policy: 0 writes U+FFFD for each, 1 writes one U+FFFD for each longest run of them, 2 writes nothing. An odd
-/// last byte is ignored. The order is 0 for little endian and 1 for big endian. `after_fault` is 0 if the unit before
+/// by the policy, whose number `widestring.h` defines. An odd last byte is ignored. The order is 0 for little endian and 1 for big endian. `after_fault` is 0 if the unit before
 /// the bytes is well formed or there is none, and another number if it is ill-formed.
 ///
 /// Returns the length of the result in bytes. If `text` is at least that long, the result is at its start, and the

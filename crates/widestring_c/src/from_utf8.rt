@@ -198,8 +198,8 @@ pub extern "C" fn wide_utf8_to_utf32_lossy(text: &[u8], units: &mut [u32]) -> us
     put_lossy_32(text, Policy::Each, units)
 }
 
-/// Converts any bytes to UTF-16, and replaces the maximal subparts of ill-formed sequences by the policy: 0 writes
-/// U+FFFD for each, 1 writes one U+FFFD for each longest run of them, 2 writes nothing.
+/// Converts any bytes to UTF-16, and replaces the maximal subparts of ill-formed sequences by the policy, whose number
+/// `widestring.h` defines.
 ///
 /// Returns how many units the result has. If `units` is at least that long, the result is at its start, and the units
 /// after the result are unchanged. For any other policy it returns `usize::MAX` and leaves `units` unchanged.
@@ -222,8 +222,8 @@ pub extern "C" fn wide_utf8_to_utf16_lossy_with(
     }
 }
 
-/// Converts any bytes to UTF-32, and replaces the maximal subparts of ill-formed sequences by the policy: 0 writes
-/// U+FFFD for each, 1 writes one U+FFFD for each longest run of them, 2 writes nothing.
+/// Converts any bytes to UTF-32, and replaces the maximal subparts of ill-formed sequences by the policy, whose number
+/// `widestring.h` defines.
 ///
 /// Returns how many units the result has. If `units` is at least that long, the result is at its start, and the units
 /// after the result are unchanged. For any other policy it returns `usize::MAX` and leaves `units` unchanged.

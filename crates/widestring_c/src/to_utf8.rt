@@ -179,8 +179,7 @@ pub extern "C" fn wide_utf16_to_utf8_lossy(units: &[u16], text: &mut [u8]) -> us
     }
 }
 
-/// Converts any UTF-16 to UTF-8, and replaces ill-formed units by the policy: 0 writes U+FFFD for each, 1 writes one
-/// U+FFFD for each longest run of them, 2 writes nothing.
+/// Converts any UTF-16 to UTF-8, and replaces ill-formed units by the policy, whose number `widestring.h` defines.
 ///
 /// Returns the length of the result in bytes. If `text` is at least that long, the result is at its start, and the
 /// bytes after the result are unchanged. For any other policy it returns `usize::MAX` and leaves `text` unchanged.
@@ -232,8 +231,8 @@ pub extern "C" fn wide_utf32_to_utf8_lossy(units: &[u32], text: &mut [u8]) -> us
     put_lossy_32(units, Policy::Each, text)
 }
 
-/// Converts any UTF-32 to UTF-8, and replaces units that are not scalar values by the policy: 0 writes U+FFFD for each,
-/// 1 writes one U+FFFD for each longest run of them, 2 writes nothing.
+/// Converts any UTF-32 to UTF-8, and replaces units that are not scalar values by the policy, whose number
+/// `widestring.h` defines.
 ///
 /// Returns the length of the result in bytes. If `text` is at least that long, the result is at its start, and the
 /// bytes after the result are unchanged. For any other policy it returns `usize::MAX` and leaves `text` unchanged.

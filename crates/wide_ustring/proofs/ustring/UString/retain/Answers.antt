@@ -6,7 +6,7 @@ pub loop-at-preserved : goal.loop-at-preserved
 loop-at-preserved g c =
     let more : c.loop-at.at < length c.self.inside.units.items = omega (arith, c.self.inside.units.ok) in record {
       callable = search of_calls;
-      filtered = rw c.from-kept.ensures (asks _ _ _ _ _ _ _ c.loop-at.invariant.filtered _ _ _ more c.index-unit.ensures c.keep.ensures);
+      filtered = rw c.from-retained.ensures (asks _ _ _ _ _ _ _ c.loop-at.invariant.filtered _ _ _ more c.index-unit.ensures c.keep.ensures);
       space = c.loop-at.invariant.space;
     }
 

@@ -5,6 +5,6 @@ use Rattle.wide_ustring.proofs.ustring.UString.retain.Given as goal
 abbrev pub invariant-loop-at : goal.invariant-loop-at
 invariant-loop-at g l = record {
   callable : goal.F-IsAlwaysCallable g l.keep;
-  filtered : Filtering (goal.F-step g) l.initial.keep l.keep l.initial.units.items l.units.items l.kept l.at;
+  filtered : Filtering (goal.F-step g) l.initial.keep l.keep l.initial.units.items l.units.items l.retained l.at;
   space : vec_capacity l.units ≡ vec_capacity l.initial.units;
 }

@@ -19,7 +19,7 @@ pub loop-at-preserved-in-Some : goal.loop-at-preserved-in-Some
 loop-at-preserved-in-Some g c =
     let more : c.loop-at.at < length c.loop-at.units.items = omega (arith, c.loop-at-test.true, c.len-len.ensures, c.self.inside.units.ok, c.loop-at.invariant.filtered.length_same) in record {
       callable = search of_calls;
-      filtered = rw c.from-kept.ensures (asks g.C.Unit.form g.C.Unit.number (goal.F-step g) _ _ _ _ _ _ c.loop-at.invariant.filtered _ c.index-first.result.now c.in-Some.c c.keep.result more c.index-first.ensures c.in-Some.ensures.0 c.in-Some.ensures.1 c.keep.ensures);
+      filtered = rw c.from-retained.ensures (asks g.C.Unit.form g.C.Unit.number (goal.F-step g) _ _ _ _ _ _ c.loop-at.invariant.filtered _ c.index-first.result.now c.in-Some.c c.keep.result more c.index-first.ensures c.in-Some.ensures.0 c.in-Some.ensures.1 c.keep.ensures);
       space = c.loop-at.invariant.space;
     }
 
