@@ -89,6 +89,17 @@ fn example_of_containsnul_nul_position(rt: HostRuntime) -> Result<(), Fail> {
 }
 
 #[test]
+fn example_of_containsnul_into_vec(rt: HostRuntime) -> Result<(), Fail> {
+    let units = [0x48, 0, 0xd83d].to_vec(rt.alloc())?;
+    let Err(UCStringError::ContainsNul(fault)) = U16CString::from_vec(units) else {
+        panic!(rt; "a NUL is at index 1")
+    };
+    let units = fault.into_vec();
+    assert!(rt; units.is_some_and(|units| units.as_slice() == [0x48, 0, 0xd83d].as_slice()));
+    Ok(())
+}
+
+#[test]
 fn example_of_nulerror(rt: HostRuntime) -> Result<(), Fail> {
     let open = U16CStr::from_slice(&[0x48, 0x69]);
     assert!(rt; matches!(open, Err(NulError::MissingNulTerminator(_))));
@@ -142,6 +153,17 @@ fn example_of_utferror_item(rt: HostRuntime) -> Result<(), Fail> {
 fn example_of_utferror_cause(rt: HostRuntime) -> Result<(), Fail> {
     let fault = Utf16Str::from_slice(&[0x48, 0xdc00]).err();
     assert!(rt; fault.map(|fault| fault.cause()) == Some(DecodeUtf16Error::new(0xdc00)));
+    Ok(())
+}
+
+#[test]
+fn example_of_utferror_into_vec(rt: HostRuntime) -> Result<(), Fail> {
+    let units = [0xe9, 0xd83d].to_vec(rt.alloc())?;
+    let Err(fault) = Utf16String::from_vec(units) else {
+        panic!(rt; "an unpaired surrogate is at index 1")
+    };
+    let units = fault.into_vec();
+    assert!(rt; units.is_some_and(|units| units.as_slice() == [0xe9, 0xd83d].as_slice()));
     Ok(())
 }
 

@@ -132,6 +132,15 @@ fn example_of_ustr_strip_prefix(rt: HostRuntime) -> Result<(), Fail> {
 }
 
 #[test]
+fn example_of_ustr_strip_suffix(rt: HostRuntime) -> Result<(), Fail> {
+    let line = U16Str::from_slice(&[0x48, 0xd83d, 0xd, 0xa]);
+    let end = U16Str::from_slice(&[0xd, 0xa]);
+    assert!(rt; line.strip_suffix(end) == Some(U16Str::from_slice(&[0x48, 0xd83d])));
+    assert!(rt; end.strip_suffix(line).is_none());
+    Ok(())
+}
+
+#[test]
 fn example_of_ustr_split(rt: HostRuntime) -> Result<(), Fail> {
     let row = U16Str::from_slice(&[0x61, 0x3b, 0xd800, 0x3b]);
     let mut fields = row.split(U16Str::from_slice(&[0x3b]));

@@ -38,6 +38,32 @@ fn example_of_ustring_push(rt: HostRuntime) -> Result<(), Fail> {
 }
 
 #[test]
+fn example_of_ustring_clear(rt: HostRuntime) -> Result<(), Fail> {
+    let mut string = U16String::from_str(rt.alloc(), "Hi")?;
+    let capacity = string.capacity();
+    string.clear();
+    assert!(rt; string.is_empty());
+    assert!(rt; string.capacity() == capacity);
+    Ok(())
+}
+
+#[test]
+fn example_of_ustring_truncate(rt: HostRuntime) -> Result<(), Fail> {
+    let mut string = U16String::from_str(rt.alloc(), "H😀")?;
+    string.truncate(2);
+    assert!(rt; string.as_slice() == [0x48, 0xd83d].as_slice());
+    Ok(())
+}
+
+#[test]
+fn example_of_ustring_retain(rt: HostRuntime) -> Result<(), Fail> {
+    let mut string = U16String::from_vec([0x48, 0, 0xd83d, 0].to_vec(rt.alloc())?);
+    string.retain(|unit| unit != 0);
+    assert!(rt; string.as_slice() == [0x48, 0xd83d].as_slice());
+    Ok(())
+}
+
+#[test]
 fn example_of_ustring_push_char(rt: HostRuntime) -> Result<(), Fail> {
     let mut string = U16String::new(rt.alloc());
     string.push_char('😀')?;
@@ -51,6 +77,25 @@ fn example_of_ustring_push_str(rt: HostRuntime) -> Result<(), Fail> {
     path.push_str("\\temp")?;
     let text = path.as_ustr().to_string(rt.alloc())?;
     assert!(rt; text.as_str() == "C:\\temp");
+    Ok(())
+}
+
+#[test]
+fn example_of_ustring_pop_char(rt: HostRuntime) -> Result<(), Fail> {
+    let mut string = U16String::from_vec([0xd83d, 0xde00, 0xd83d].to_vec(rt.alloc())?);
+    assert!(rt; string.pop_char() == Some(0xd83d));
+    assert!(rt; string.pop_char() == Some(0x1f600));
+    assert!(rt; string.pop_char().is_none());
+    Ok(())
+}
+
+#[test]
+fn example_of_ustring_try_clone(rt: HostRuntime) -> Result<(), Fail> {
+    let string = U16String::from_str(rt.alloc(), "Hi")?;
+    let mut copy = string.try_clone()?;
+    copy.truncate(1);
+    assert!(rt; copy.as_slice() == [0x48].as_slice());
+    assert!(rt; string.as_slice() == [0x48, 0x69].as_slice());
     Ok(())
 }
 

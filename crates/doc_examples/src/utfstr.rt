@@ -13,6 +13,16 @@ fn example_of_utfstr(rt: HostRuntime) -> Result<(), Fail> {
 }
 
 #[test]
+fn example_of_utfstr_is_char_boundary(rt: HostRuntime) -> Result<(), Fail> {
+    let text = Utf16Str::from_slice(&[0x48, 0xd83d, 0xde00])?;
+    assert!(rt; text.is_char_boundary(1));
+    assert!(rt; !text.is_char_boundary(2));
+    assert!(rt; text.is_char_boundary(3));
+    assert!(rt; !text.is_char_boundary(4));
+    Ok(())
+}
+
+#[test]
 fn example_of_utfstr_char_count(rt: HostRuntime) -> Result<(), Fail> {
     let text = Utf16Str::from_slice(&[0x48, 0xd83d, 0xde00])?;
     assert!(rt; text.len() == 3);
@@ -83,6 +93,14 @@ fn example_of_utfstr_from_slice(rt: HostRuntime) -> Result<(), Fail> {
 }
 
 #[test]
+fn example_of_utfstr_as_ustr(rt: HostRuntime) -> Result<(), Fail> {
+    let text = Utf16Str::from_slice(&[0x48, 0xd83d, 0xde00])?;
+    assert!(rt; text.get(2..).is_none());
+    assert!(rt; text.as_ustr().get(2..) == Some(U16Str::from_slice(&[0xde00])));
+    Ok(())
+}
+
+#[test]
 fn example_of_utfstr_encode_utf32(rt: HostRuntime) -> Result<(), Fail> {
     let mut units = Utf16Str::from_slice(&[0x48, 0xd83d, 0xde00])?.encode_utf32();
     assert!(rt; units.next() == Some(0x48));
@@ -95,6 +113,22 @@ fn example_of_utfstr_encode_utf16(rt: HostRuntime) -> Result<(), Fail> {
     let mut units = Utf32Str::from_slice(&[0x1f600])?.encode_utf16();
     assert!(rt; units.next() == Some(0xd83d));
     assert!(rt; units.next() == Some(0xde00));
+    Ok(())
+}
+
+#[test]
+fn example_of_utfstr_trim_start(rt: HostRuntime) -> Result<(), Fail> {
+    let text = Utf16Str::from_slice(&[0x3000, 0x20, 0xe9, 0x20])?;
+    let rest = text.trim_start();
+    assert!(rt; rest.eq_str("é "));
+    Ok(())
+}
+
+#[test]
+fn example_of_utfstr_trim_end(rt: HostRuntime) -> Result<(), Fail> {
+    let text = Utf16Str::from_slice(&[0x20, 0xd83d, 0xde00, 0xd, 0xa])?;
+    let line = text.trim_end();
+    assert!(rt; line.eq_str(" 😀"));
     Ok(())
 }
 
@@ -132,11 +166,38 @@ fn example_of_utfstr_starts_with(rt: HostRuntime) -> Result<(), Fail> {
 }
 
 #[test]
+fn example_of_utfstr_ends_with(rt: HostRuntime) -> Result<(), Fail> {
+    let text = Utf16Str::from_slice(&[0x48, 0xd83d, 0xde00])?;
+    let emoji = Utf16Str::from_slice(&[0xd83d, 0xde00])?;
+    assert!(rt; text.ends_with(emoji));
+    assert!(rt; !emoji.ends_with(text));
+    Ok(())
+}
+
+#[test]
+fn example_of_utfstr_contains(rt: HostRuntime) -> Result<(), Fail> {
+    let text = Utf16Str::from_slice(&[0xe9, 0x3d, 0x3e, 0x31])?;
+    let arrow = Utf16Str::from_slice(&[0x3d, 0x3e])?;
+    assert!(rt; text.contains(arrow));
+    assert!(rt; !arrow.contains(text));
+    Ok(())
+}
+
+#[test]
 fn example_of_utfstr_find(rt: HostRuntime) -> Result<(), Fail> {
     let text = Utf16Str::from_slice(&[0xd83d, 0xde00, 0x3d, 0x3e, 0x31])?;
     let arrow = Utf16Str::from_slice(&[0x3d, 0x3e])?;
     assert!(rt; text.find(arrow) == Some(2));
     assert!(rt; arrow.find(text).is_none());
+    Ok(())
+}
+
+#[test]
+fn example_of_utfstr_rfind(rt: HostRuntime) -> Result<(), Fail> {
+    let path = Utf16Str::from_slice(&[0x43, 0x3a, 0x5c, 0xe9, 0x5c, 0x61])?;
+    let separator = Utf16Str::from_slice(&[0x5c])?;
+    assert!(rt; path.rfind(separator) == Some(4));
+    assert!(rt; separator.rfind(path).is_none());
     Ok(())
 }
 
@@ -159,10 +220,28 @@ fn example_of_utfstr_strip_prefix(rt: HostRuntime) -> Result<(), Fail> {
 }
 
 #[test]
+fn example_of_utfstr_strip_suffix(rt: HostRuntime) -> Result<(), Fail> {
+    let name = Utf16Str::from_slice(&[0xe9, 0x2e, 0x72, 0x63])?;
+    let extension = Utf16Str::from_slice(&[0x2e, 0x72, 0x63])?;
+    let stem = name.strip_suffix(extension);
+    assert!(rt; stem.is_some_and(|stem| stem.eq_str("é")));
+    assert!(rt; extension.strip_suffix(name).is_none());
+    Ok(())
+}
+
+#[test]
 fn example_of_utfstr_split_once(rt: HostRuntime) -> Result<(), Fail> {
     let setting = Utf16Str::from_slice(&[0xe9, 0x3d, 0x31])?;
     let parts = setting.split_once(Utf16Str::from_slice(&[0x3d])?);
     assert!(rt; parts.is_some_and(|(name, value)| name.eq_str("é") && value.eq_str("1")));
+    Ok(())
+}
+
+#[test]
+fn example_of_utfstr_rsplit_once(rt: HostRuntime) -> Result<(), Fail> {
+    let path = Utf16Str::from_slice(&[0x61, 0x2f, 0xe9, 0x2f, 0x62])?;
+    let parts = path.rsplit_once(Utf16Str::from_slice(&[0x2f])?);
+    assert!(rt; parts.is_some_and(|(folder, name)| folder.eq_str("a/é") && name.eq_str("b")));
     Ok(())
 }
 

@@ -40,6 +40,16 @@ fn example_of_utfstring_as_utfstr(rt: HostRuntime) -> Result<(), Fail> {
 }
 
 #[test]
+fn example_of_utfstring_clear(rt: HostRuntime) -> Result<(), Fail> {
+    let mut text = Utf16String::from_str(rt.alloc(), "Hi😀")?;
+    let capacity = text.capacity();
+    text.clear();
+    assert!(rt; text.is_empty());
+    assert!(rt; text.capacity() == capacity);
+    Ok(())
+}
+
+#[test]
 fn example_of_utfstring_push(rt: HostRuntime) -> Result<(), Fail> {
     let mut text = Utf16String::from_str(rt.alloc(), "Hi")?;
     text.push('😀')?;
@@ -64,6 +74,15 @@ fn example_of_utfstring_push_utfstr(rt: HostRuntime) -> Result<(), Fail> {
 }
 
 #[test]
+fn example_of_utfstring_pop(rt: HostRuntime) -> Result<(), Fail> {
+    let mut text = Utf16String::from_str(rt.alloc(), "é😀")?;
+    assert!(rt; text.pop() == Some('😀'));
+    assert!(rt; text.pop() == Some('é'));
+    assert!(rt; text.pop().is_none());
+    Ok(())
+}
+
+#[test]
 fn example_of_utfstring_insert(rt: HostRuntime) -> Result<(), Fail> {
     let mut text = Utf16String::from_str(rt.alloc(), "😀!")?;
     if let Some(at) = text.as_utfstr().find_char('!') {
@@ -78,6 +97,15 @@ fn example_of_utfstring_insert_utfstr(rt: HostRuntime) -> Result<(), Fail> {
     let mut path = Utf16String::from_str(rt.alloc(), "temp")?;
     path.insert_utfstr(0, Utf16Str::from_slice(&[0x43, 0x3a, 0x5c])?)?;
     assert!(rt; path.as_utfstr().eq_str("C:\\temp"));
+    Ok(())
+}
+
+#[test]
+fn example_of_utfstring_truncate(rt: HostRuntime) -> Result<(), Fail> {
+    let mut text = Utf16String::from_str(rt.alloc(), "Hi😀")?;
+    let end = text.as_utfstr().floor_char_boundary(3);
+    text.truncate(end);
+    assert!(rt; text.as_utfstr().eq_str("Hi"));
     Ok(())
 }
 
@@ -99,6 +127,24 @@ fn example_of_utfstring_replace_range(rt: HostRuntime) -> Result<(), Fail> {
         text.replace_range(at.., Utf16Str::from_slice(&[0x20, 0xe9])?)?;
     }
     assert!(rt; text.as_utfstr().eq_str("Hi é"));
+    Ok(())
+}
+
+#[test]
+fn example_of_utfstring_splice_str(rt: HostRuntime) -> Result<(), Fail> {
+    let mut path = Utf16String::from_str(rt.alloc(), "C:\\é")?;
+    if let Some(at) = path.as_utfstr().find_char('\\') {
+        path.splice_str(0, at, "D:")?;
+    }
+    assert!(rt; path.as_utfstr().eq_str("D:\\é"));
+    Ok(())
+}
+
+#[test]
+fn example_of_utfstring_retain(rt: HostRuntime) -> Result<(), Fail> {
+    let mut text = Utf16String::from_str(rt.alloc(), "é😀!")?;
+    text.retain(|c| c != '😀');
+    assert!(rt; text.as_utfstr().eq_str("é!"));
     Ok(())
 }
 

@@ -125,6 +125,15 @@ impl<C: Unit> UStr<'_, C> {
     }
 
     /// Returns the view without the given suffix, or `None` if it does not end with it.
+    ///
+    /// # Example
+    ///
+    /// ```
+    /// let line = U16Str::from_slice(&[0x48, 0xd83d, 0xd, 0xa]);
+    /// let end = U16Str::from_slice(&[0xd, 0xa]);
+    /// assert!(rt; line.strip_suffix(end) == Some(U16Str::from_slice(&[0x48, 0xd83d])));
+    /// assert!(rt; end.strip_suffix(line).is_none());
+    /// ```
     pub fn strip_suffix(self, needle: UStr<'_, C>) -> Option<Self>
         ensures some { IsSome result ↔ EndsWith (units_seen needle.entry) (units_seen self.entry) }
         ensures prefix { IfSome result (λ prefix. units_seen self.entry ≡ units_seen prefix ++ units_seen needle.entry) }

@@ -335,6 +335,16 @@ impl<C: FaultUnit, A: Allocator> UString<C, A> {
     }
 
     /// Removes all units. The capacity is unchanged.
+    ///
+    /// # Example
+    ///
+    /// ```
+    /// let mut string = U16String::from_str(rt.alloc(), "Hi")?;
+    /// let capacity = string.capacity();
+    /// string.clear();
+    /// assert!(rt; string.is_empty());
+    /// assert!(rt; string.capacity() == capacity);
+    /// ```
     pub fn clear(&mut self)
         ensures units { self.new.units ≡ [] }
         ensures capacity { self.new.capacity ≡ self.old.capacity }
@@ -343,6 +353,14 @@ impl<C: FaultUnit, A: Allocator> UString<C, A> {
     }
 
     /// Shortens the string to `len` units. It does nothing if the string is not longer. The capacity is unchanged.
+    ///
+    /// # Example
+    ///
+    /// ```
+    /// let mut string = U16String::from_str(rt.alloc(), "H😀")?;
+    /// string.truncate(2);
+    /// assert!(rt; string.as_slice() == [0x48, 0xd83d].as_slice());
+    /// ```
     pub fn truncate(&mut self, len: usize)
         ensures units { self.new.units ≡ take len self.old.units }
         ensures capacity { self.new.capacity ≡ self.old.capacity }
@@ -405,6 +423,14 @@ impl<C: FaultUnit, A: Allocator> UString<C, A> {
     /// # Requires
     ///
     /// The closure can be called any number of times.
+    ///
+    /// # Example
+    ///
+    /// ```
+    /// let mut string = U16String::from_vec([0x48, 0, 0xd83d, 0].to_vec(rt.alloc())?);
+    /// string.retain(|unit| unit != 0);
+    /// assert!(rt; string.as_slice() == [0x48, 0xd83d].as_slice());
+    /// ```
     pub fn retain<F: FnMut(C) -> bool>(&mut self, mut keep: F)
         requires { F.IsAlwaysCallable keep }
         ensures filtered { IsFiltered F.step keep self.old.units self.new.units }
@@ -637,6 +663,15 @@ impl<C: FaultUnit, A: Allocator> UString<C, A> {
 
     /// Removes the last character, or the last unit if it belongs to no character, and returns its number. In UTF-16
     /// the character may be a surrogate pair. Returns `None` if the string is empty.
+    ///
+    /// # Example
+    ///
+    /// ```
+    /// let mut string = U16String::from_vec([0xd83d, 0xde00, 0xd83d].to_vec(rt.alloc())?);
+    /// assert!(rt; string.pop_char() == Some(0xd83d));
+    /// assert!(rt; string.pop_char() == Some(0x1f600));
+    /// assert!(rt; string.pop_char().is_none());
+    /// ```
     pub fn pop_char(&mut self) -> Option<u32>
         ensures none { IsNone result ↔ (self.old.units ≡ []) }
         ensures taken { IfSome result (TakesLast C.form (map C.number self.old.units) (map C.number self.new.units)) }
@@ -675,6 +710,16 @@ impl<C: FaultUnit, A: Allocator> UString<C, A> {
     /// # Errors
     ///
     /// [`OutOfMemory`] if the allocation fails or the allocator cannot be copied.
+    ///
+    /// # Example
+    ///
+    /// ```
+    /// let string = U16String::from_str(rt.alloc(), "Hi")?;
+    /// let mut copy = string.try_clone()?;
+    /// copy.truncate(1);
+    /// assert!(rt; copy.as_slice() == [0x48].as_slice());
+    /// assert!(rt; string.as_slice() == [0x48, 0x69].as_slice());
+    /// ```
     pub fn try_clone(&self) -> Result<Self, OutOfMemory>
     where
         A: Clone,

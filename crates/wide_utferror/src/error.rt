@@ -142,6 +142,17 @@ impl<C: FaultUnit, A: Allocator> UtfError<C, A> {
 
     /// Returns the vector that was passed in, or the copy that was made of the units, or `None` if the call was for a
     /// view.
+    ///
+    /// # Example
+    ///
+    /// ```
+    /// let units = [0xe9, 0xd83d].to_vec(rt.alloc())?;
+    /// let Err(fault) = Utf16String::from_vec(units) else {
+    ///     panic!(rt; "an unpaired surrogate is at index 1")
+    /// };
+    /// let units = fault.into_vec();
+    /// assert!(rt; units.is_some_and(|units| units.as_slice() == [0xe9, 0xd83d].as_slice()));
+    /// ```
     pub fn into_vec(self) -> Option<Vec<C, A>>
         ensures { result ≡ vec_of self }
     {

@@ -81,6 +81,17 @@ impl<C, A: Allocator> ContainsNul<C, A> {
 
     /// Returns the vector that was passed in, or the copy that was made of the units, or `None` if the call was for a
     /// view.
+    ///
+    /// # Example
+    ///
+    /// ```
+    /// let units = [0x48, 0, 0xd83d].to_vec(rt.alloc())?;
+    /// let Err(UCStringError::ContainsNul(fault)) = U16CString::from_vec(units) else {
+    ///     panic!(rt; "a NUL is at index 1")
+    /// };
+    /// let units = fault.into_vec();
+    /// assert!(rt; units.is_some_and(|units| units.as_slice() == [0x48, 0, 0xd83d].as_slice()));
+    /// ```
     pub fn into_vec(self) -> Option<Vec<C, A>>
         ensures { result ≡ vec_of self }
     {

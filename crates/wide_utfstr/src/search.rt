@@ -30,6 +30,15 @@ impl<C: Unit> UtfStr<'_, C> {
     }
 
     /// Returns whether the view ends with the needle. It does if the needle is empty.
+    ///
+    /// # Example
+    ///
+    /// ```
+    /// let text = Utf16Str::from_slice(&[0x48, 0xd83d, 0xde00])?;
+    /// let emoji = Utf16Str::from_slice(&[0xd83d, 0xde00])?;
+    /// assert!(rt; text.ends_with(emoji));
+    /// assert!(rt; !emoji.ends_with(text));
+    /// ```
     pub fn ends_with(self, needle: UtfStr<'_, C>) -> bool
         ensures { IsTrue result ↔ EndsWith (units_seen needle.entry) (units_seen self.entry) }
     {
@@ -37,6 +46,15 @@ impl<C: Unit> UtfStr<'_, C> {
     }
 
     /// Returns whether the needle occurs anywhere in the view. An empty needle does.
+    ///
+    /// # Example
+    ///
+    /// ```
+    /// let text = Utf16Str::from_slice(&[0xe9, 0x3d, 0x3e, 0x31])?;
+    /// let arrow = Utf16Str::from_slice(&[0x3d, 0x3e])?;
+    /// assert!(rt; text.contains(arrow));
+    /// assert!(rt; !arrow.contains(text));
+    /// ```
     pub fn contains(self, needle: UtfStr<'_, C>) -> bool
         ensures { IsTrue result ↔ OccursIn (units_seen needle.entry) (units_seen self.entry) }
     {
@@ -72,6 +90,15 @@ impl<C: Unit> UtfStr<'_, C> {
     /// Returns the offset, in units, of the last occurrence of the needle, or `None` if there is none. An empty needle
     /// occurs at the end. The offset and the end of the occurrence are character boundaries. The search is vectorized,
     /// and goes from the back.
+    ///
+    /// # Example
+    ///
+    /// ```
+    /// let path = Utf16Str::from_slice(&[0x43, 0x3a, 0x5c, 0xe9, 0x5c, 0x61])?;
+    /// let separator = Utf16Str::from_slice(&[0x5c])?;
+    /// assert!(rt; path.rfind(separator) == Some(4));
+    /// assert!(rt; separator.rfind(path).is_none());
+    /// ```
     pub fn rfind(self, needle: UtfStr<'_, C>) -> Option<usize>
         ensures last { IfSome result (IsLastAt (units_seen needle.entry) (units_seen self.entry)) }
         ensures none { IfNone result (OccursNowhere (units_seen needle.entry) (units_seen self.entry)) }
@@ -137,6 +164,16 @@ impl<C: Unit> UtfStr<'_, C> {
     }
 
     /// Returns the view without the given suffix, or `None` if it does not end with it.
+    ///
+    /// # Example
+    ///
+    /// ```
+    /// let name = Utf16Str::from_slice(&[0xe9, 0x2e, 0x72, 0x63])?;
+    /// let extension = Utf16Str::from_slice(&[0x2e, 0x72, 0x63])?;
+    /// let stem = name.strip_suffix(extension);
+    /// assert!(rt; stem.is_some_and(|stem| stem.eq_str("é")));
+    /// assert!(rt; extension.strip_suffix(name).is_none());
+    /// ```
     pub fn strip_suffix(self, needle: UtfStr<'_, C>) -> Option<Self>
         ensures some { IsSome result ↔ EndsWith (units_seen needle.entry) (units_seen self.entry) }
         ensures prefix { IfSome result (λ prefix. units_seen self.entry ≡ units_seen prefix ++ units_seen needle.entry) }
@@ -172,6 +209,14 @@ impl<C: Unit> UtfStr<'_, C> {
 
     /// Splits the view at the last occurrence of the needle, into the text before it and the text after it. Returns
     /// `None` if there is none.
+    ///
+    /// # Example
+    ///
+    /// ```
+    /// let path = Utf16Str::from_slice(&[0x61, 0x2f, 0xe9, 0x2f, 0x62])?;
+    /// let parts = path.rsplit_once(Utf16Str::from_slice(&[0x2f])?);
+    /// assert!(rt; parts.is_some_and(|(folder, name)| folder.eq_str("a/é") && name.eq_str("b")));
+    /// ```
     pub fn rsplit_once(self, needle: UtfStr<'_, C>) -> Option<(Self, Self)>
         ensures last { IfSome result (λ r. IsLastSplit (units_seen needle.entry) (units_seen self.entry) (units_seen r.0) (units_seen r.1)) }
         ensures none { IfNone result (OccursNowhere (units_seen needle.entry) (units_seen self.entry)) }

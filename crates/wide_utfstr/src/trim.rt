@@ -8,6 +8,14 @@ use wide_unit::Unit;
 impl<C: Unit> UtfStr<'_, C> {
     /// Returns a view of the text after its longest prefix of White_Space characters (Unicode Character Database). It
     /// is empty if all characters are White_Space. It reads that prefix and one more character.
+    ///
+    /// # Example
+    ///
+    /// ```
+    /// let text = Utf16Str::from_slice(&[0x3000, 0x20, 0xe9, 0x20])?;
+    /// let rest = text.trim_start();
+    /// assert!(rt; rest.eq_str("é "));
+    /// ```
     pub fn trim_start(self) -> Self
         ensures trimmed { IsTrimmedStart (text_seen self.entry) (text_seen result) }
         ensures part { IsBackOf (units_seen self.entry) (units_seen result) }
@@ -24,6 +32,14 @@ impl<C: Unit> UtfStr<'_, C> {
 
     /// Returns a view of the text before its longest suffix of White_Space characters (Unicode Character Database). It
     /// is empty if all characters are White_Space. It reads that suffix and one more character.
+    ///
+    /// # Example
+    ///
+    /// ```
+    /// let text = Utf16Str::from_slice(&[0x20, 0xd83d, 0xde00, 0xd, 0xa])?;
+    /// let line = text.trim_end();
+    /// assert!(rt; line.eq_str(" 😀"));
+    /// ```
     pub fn trim_end(self) -> Self
         ensures trimmed { IsTrimmedEnd (text_seen self.entry) (text_seen result) }
         ensures part { IsPrefixOf (units_seen self.entry) (units_seen result) }

@@ -100,6 +100,16 @@ impl<'a, C: Unit> UtfStr<'a, C> {
     /// Returns whether an offset in units is a character boundary: it is between two characters, or at an end of the
     /// text. It is not one if it is within a surrogate pair (Unicode Standard, D75) or past the end. It reads at most
     /// the unit at the offset.
+    ///
+    /// # Example
+    ///
+    /// ```
+    /// let text = Utf16Str::from_slice(&[0x48, 0xd83d, 0xde00])?;
+    /// assert!(rt; text.is_char_boundary(1));
+    /// assert!(rt; !text.is_char_boundary(2));
+    /// assert!(rt; text.is_char_boundary(3));
+    /// assert!(rt; !text.is_char_boundary(4));
+    /// ```
     pub fn is_char_boundary(self, offset: usize) -> bool
         ensures boundary { IsTrue result ↔ IsBoundary C.form (map C.number (units_seen self.entry)) offset }
         ensures char_boundary { IsTrue result ↔ IsCharBoundary C.form (map C.number (units_seen self.entry)) offset }
@@ -447,6 +457,14 @@ impl<'a, C: FaultUnit> UtfStr<'a, C> {
     }
 
     /// Returns a view of the units, as units that may be ill-formed.
+    ///
+    /// # Example
+    ///
+    /// ```
+    /// let text = Utf16Str::from_slice(&[0x48, 0xd83d, 0xde00])?;
+    /// assert!(rt; text.get(2..).is_none());
+    /// assert!(rt; text.as_ustr().get(2..) == Some(U16Str::from_slice(&[0xde00])));
+    /// ```
     pub fn as_ustr(self) -> UStr<'a, C>
         ensures units { ustr_units result ≡ units_seen self.entry }
         ensures well_formed { IsWellFormed C.form (map C.number (ustr_units result)) }

@@ -356,6 +356,16 @@ impl<C: FaultUnit, A: Allocator> UtfString<C, A> {
     }
 
     /// Removes all text. The capacity is unchanged.
+    ///
+    /// # Example
+    ///
+    /// ```
+    /// let mut text = Utf16String::from_str(rt.alloc(), "Hi😀")?;
+    /// let capacity = text.capacity();
+    /// text.clear();
+    /// assert!(rt; text.is_empty());
+    /// assert!(rt; text.capacity() == capacity);
+    /// ```
     pub fn clear(&mut self)
         ensures units { self.new.units ≡ [] }
         ensures capacity { self.new.capacity ≡ self.old.capacity }
@@ -465,6 +475,15 @@ impl<C: FaultUnit, A: Allocator> UtfString<C, A> {
     }
 
     /// Removes the last character and returns it, or returns `None` if the string is empty.
+    ///
+    /// # Example
+    ///
+    /// ```
+    /// let mut text = Utf16String::from_str(rt.alloc(), "é😀")?;
+    /// assert!(rt; text.pop() == Some('😀'));
+    /// assert!(rt; text.pop() == Some('é'));
+    /// assert!(rt; text.pop().is_none());
+    /// ```
     pub fn pop(&mut self) -> Option<char>
         ensures none { IsNone result ↔ (self.old.units ≡ []) }
         ensures taken { IfSome result (λ c. text_of C.form C.number self.old.units ≡ text_of C.form C.number self.new.units ++ c ∷ []) }
@@ -541,6 +560,15 @@ impl<C: FaultUnit, A: Allocator> UtfString<C, A> {
     /// # Requires
     ///
     /// `len` is a character boundary, or at least the length.
+    ///
+    /// # Example
+    ///
+    /// ```
+    /// let mut text = Utf16String::from_str(rt.alloc(), "Hi😀")?;
+    /// let end = text.as_utfstr().floor_char_boundary(3);
+    /// text.truncate(end);
+    /// assert!(rt; text.as_utfstr().eq_str("Hi"));
+    /// ```
     pub fn truncate(&mut self, len: usize)
         requires { (ustring_len self.old ≤ len) ⊎ IsCharBoundary C.form (map C.number self.old.units) len }
         ensures units { self.new.units ≡ take len self.old.units }
@@ -663,6 +691,16 @@ impl<C: FaultUnit, A: Allocator> UtfString<C, A> {
     ///
     /// [`OutOfMemory`] if the allocation fails; the string is unchanged. It never fails if the new length is at most
     /// the capacity.
+    ///
+    /// # Example
+    ///
+    /// ```
+    /// let mut path = Utf16String::from_str(rt.alloc(), "C:\\é")?;
+    /// if let Some(at) = path.as_utfstr().find_char('\\') {
+    ///     path.splice_str(0, at, "D:")?;
+    /// }
+    /// assert!(rt; path.as_utfstr().eq_str("D:\\é"));
+    /// ```
     pub fn splice_str(&mut self, from: usize, to: usize, text: &str) -> Result<(), OutOfMemory>
         requires { IsCharRange C.form (map C.number self.old.units) from to }
         ensures units { OnOk result (map C.number self.new.units ≡ splice (map C.number self.old.units) from to (encode C.form (str_chars text.now))) }
@@ -680,6 +718,14 @@ impl<C: FaultUnit, A: Allocator> UtfString<C, A> {
     /// # Requires
     ///
     /// The closure can be called any number of times.
+    ///
+    /// # Example
+    ///
+    /// ```
+    /// let mut text = Utf16String::from_str(rt.alloc(), "é😀!")?;
+    /// text.retain(|c| c != '😀');
+    /// assert!(rt; text.as_utfstr().eq_str("é!"));
+    /// ```
     pub fn retain<F: FnMut(char) -> bool>(&mut self, keep: F)
         requires { F.IsAlwaysCallable keep }
         ensures filtered { IsFiltered F.step keep (text_of C.form C.number self.old.units) (text_of C.form C.number self.new.units) }
