@@ -2,6 +2,7 @@
 
 mod answers;
 mod bytes;
+mod case;
 mod compare;
 mod conversions;
 mod devices;
@@ -14,6 +15,7 @@ mod lossy;
 mod offsets;
 mod policies;
 mod prints;
+mod replaced;
 mod searches;
 mod texts;
 mod units;
@@ -33,7 +35,7 @@ use width::Width;
 pub struct ViewSuite;
 
 // The groups, in the order in which they are printed.
-static GROUPS: [&str; 45] = [
+static GROUPS: [&str; 49] = [
     "items16",
     "items32",
     "lossy16",
@@ -79,6 +81,10 @@ static GROUPS: [&str; 45] = [
     "transcode",
     "searches16",
     "searches32",
+    "case16",
+    "case32",
+    "replaced16",
+    "replaced32",
 ];
 
 // The groups with corrected answers, and the crate's faults.
@@ -148,10 +154,12 @@ enum OfUnits {
     LossyText,
     ToString,
     Searches,
+    Case,
+    Replaced,
     Decoded(Decoder),
 }
 
-static OF_UNITS: [(&str, OfUnits); 19] = [
+static OF_UNITS: [(&str, OfUnits); 21] = [
     ("items", OfUnits::Decoded(Decoder::Strict)),
     ("lossy", OfUnits::Decoded(Decoder::Lossy)),
     ("hints_lossy", OfUnits::Decoded(Decoder::LossyHints)),
@@ -171,6 +179,8 @@ static OF_UNITS: [(&str, OfUnits); 19] = [
     ("lossy_text", OfUnits::LossyText),
     ("to_string", OfUnits::ToString),
     ("searches", OfUnits::Searches),
+    ("case", OfUnits::Case),
+    ("replaced", OfUnits::Replaced),
 ];
 
 impl Suite for ViewSuite {
@@ -283,6 +293,8 @@ fn with_units<C: Width>(
         OfUnits::LossyText => conversions::lossy(memory, answer, units, question),
         OfUnits::ToString => C::text(memory, answer, units, question),
         OfUnits::Searches => searches::found(alloc, answer, units, question),
+        OfUnits::Case => case::asked(memory, answer, units, question),
+        OfUnits::Replaced => replaced::asked(memory, answer, units, question),
         OfUnits::Decoded(decoder) => decoded(memory, answer, decoder, units, question),
     }
 }

@@ -1,0 +1,199 @@
+//! ASCII in units of either width, and the order of text by code points. A question is the letter of a view, as in
+//! `views.rt`, a word for the call, and the units of another list, if there are two: `u lower`, `t order 61 62`.
+//!
+//! - `ascii` is whether all units are ASCII, and `same` whether both lists are the same without regard to the case of
+//!   ASCII letters: `1` or `0`.
+//! - `lower` and `upper` are the units of a new string with its ASCII letters in that case. It makes one request for
+//!   memory, and none if it has no units; else the answer has a `?`.
+//! - `order` is the order of two texts by the code points of their characters: `<`, `=` or `>`.
+use crate::groups::width::{Width, as_contents, as_text};
+use widestring::error::OutOfMemory;
+use widestring::ucstr::UCStr;
+use widestring::ucstring::{UCStrInUcstring, UCString};
+use widestring::ustr::UStr;
+use widestring::ustring::{UStrInUstring, UString};
+use widestring::utfstr::UtfStr;
+use widestring::utfstring::{UtfStrInUtfstring, UtfString};
+use widestring_replay::parse::{self, Memory, NoAnswer};
+use widestring_replay::show::Answer;
+use widestring_testing::Heap;
+
+// The calls.
+#[derive(Clone, Copy)]
+enum Call {
+    Ascii,
+    Same,
+    Lower,
+    Upper,
+    Order,
+}
+
+static CALLS: [(&str, Call); 5] = [
+    ("ascii", Call::Ascii),
+    ("same", Call::Same),
+    ("lower", Call::Lower),
+    ("upper", Call::Upper),
+    ("order", Call::Order),
+];
+
+// The views.
+#[derive(Clone, Copy)]
+enum Kind {
+    Units,
+    Text,
+    Contents,
+}
+
+static KINDS: [(&str, Kind); 3] = [("u", Kind::Units), ("t", Kind::Text), ("c", Kind::Contents)];
+
+// Adds the units of a new string, and before them a `?` if it made another number of requests than one, or than none
+// for no units.
+fn add<C: Width>(memory: Memory<'_>, answer: &mut Answer, left: u64, units: &[C], is_made: bool) {
+    if memory.requests_since(left) != u64::from(is_made) {
+        answer.word("?");
+    }
+    answer.units(units);
+}
+
+fn units_made<C: Width>(
+    memory: Memory<'_>,
+    answer: &mut Answer,
+    left: u64,
+    made: Result<UString<C, &Heap>, OutOfMemory>,
+) {
+    match made {
+        Ok(string) => add(memory, answer, left, string.as_slice(), !string.is_empty()),
+        Err(_) => answer.fail(NoAnswer::OutOfMemory),
+    }
+}
+
+fn text_made<C: Width>(
+    memory: Memory<'_>,
+    answer: &mut Answer,
+    left: u64,
+    made: Result<UtfString<C, &Heap>, OutOfMemory>,
+) {
+    match made {
+        Ok(string) => add(memory, answer, left, string.as_slice(), !string.is_empty()),
+        Err(_) => answer.fail(NoAnswer::OutOfMemory),
+    }
+}
+
+fn contents_made<C: Width>(
+    memory: Memory<'_>,
+    answer: &mut Answer,
+    left: u64,
+    made: Result<UCString<C, &Heap>, OutOfMemory>,
+) {
+    match made {
+        Ok(string) => add(memory, answer, left, string.as_ucstr().as_slice(), true),
+        Err(_) => answer.fail(NoAnswer::OutOfMemory),
+    }
+}
+
+fn of_units<C: Width>(
+    memory: Memory<'_>,
+    answer: &mut Answer,
+    call: Call,
+    view: UStr<'_, C>,
+    other: UStr<'_, C>,
+) {
+    let (heap, left) = (memory.heap, memory.heap.left());
+    match call {
+        Call::Ascii => answer.decided(view.is_ascii()),
+        Call::Same => answer.decided(view.eq_ignore_ascii_case(other)),
+        Call::Lower => units_made(memory, answer, left, view.to_ascii_lowercase(heap)),
+        Call::Upper => units_made(memory, answer, left, view.to_ascii_uppercase(heap)),
+        Call::Order => answer.fail(NoAnswer::Unparsed),
+    }
+}
+
+fn of_text<C: Width>(
+    memory: Memory<'_>,
+    answer: &mut Answer,
+    call: Call,
+    text: UtfStr<'_, C>,
+    other: UtfStr<'_, C>,
+) {
+    let (heap, left) = (memory.heap, memory.heap.left());
+    match call {
+        Call::Ascii => answer.decided(text.is_ascii()),
+        Call::Same => answer.decided(text.eq_ignore_ascii_case(other)),
+        Call::Lower => text_made(memory, answer, left, text.to_ascii_lowercase(heap)),
+        Call::Upper => text_made(memory, answer, left, text.to_ascii_uppercase(heap)),
+        Call::Order => answer.order(text.cmp_code_points(other)),
+    }
+}
+
+fn of_contents<C: Width>(
+    memory: Memory<'_>,
+    answer: &mut Answer,
+    call: Call,
+    view: UCStr<'_, C>,
+    other: UCStr<'_, C>,
+) {
+    let (heap, left) = (memory.heap, memory.heap.left());
+    match call {
+        Call::Ascii => answer.decided(view.is_ascii()),
+        Call::Same => answer.decided(view.eq_ignore_ascii_case(other)),
+        Call::Lower => contents_made(memory, answer, left, view.to_ascii_lowercase(heap)),
+        Call::Upper => contents_made(memory, answer, left, view.to_ascii_uppercase(heap)),
+        Call::Order => answer.fail(NoAnswer::Unparsed),
+    }
+}
+
+// Makes a call of views of this kind of two lists. For C strings both end with a NUL.
+fn of_kind<C: Width>(
+    memory: Memory<'_>,
+    answer: &mut Answer,
+    kind: Kind,
+    call: Call,
+    units: &[C],
+    other: &[C],
+) {
+    match kind {
+        Kind::Units => {
+            let (view, other) = (UStr::from_slice(units), UStr::from_slice(other));
+            of_units(memory, answer, call, view, other);
+        }
+        Kind::Text => match (as_text(units), as_text(other)) {
+            (Ok(text), Ok(other)) => of_text(memory, answer, call, text, other),
+            _ => answer.fail(NoAnswer::Unparsed),
+        },
+        Kind::Contents => match (as_contents(units), as_contents(other)) {
+            (Ok(view), Ok(other)) => of_contents(memory, answer, call, view, other),
+            _ => answer.fail(NoAnswer::Unparsed),
+        },
+    }
+}
+
+// Splits a question into its view, its call, and the units of the other list.
+fn parsed(question: &str) -> Result<(Kind, Call, &str), NoAnswer> {
+    let (kind, rest) = parse::word(question);
+    let (call, list) = parse::word(rest);
+    Ok((
+        parse::named(&KINDS, kind)?,
+        parse::named(&CALLS, call)?,
+        list,
+    ))
+}
+
+fn with_list<C: Width>(
+    memory: Memory<'_>,
+    answer: &mut Answer,
+    (kind, call, list): (Kind, Call, &str),
+    units: &[C],
+) {
+    match parse::list::<C>(memory.alloc, list) {
+        Ok(other) => of_kind(memory, answer, kind, call, units, &other),
+        Err(error) => answer.fail(error),
+    }
+}
+
+/// Adds the answer to a question about ASCII in units of either width.
+pub fn asked<C: Width>(memory: Memory<'_>, answer: &mut Answer, units: &[C], question: &str) {
+    match parsed(question) {
+        Ok(parsed) => with_list(memory, answer, parsed, units),
+        Err(error) => answer.fail(error),
+    }
+}
