@@ -394,13 +394,18 @@ def words_of(line):
     return {new or name: (found[1], found[2], name) for name, _, new in pairs}
 
 
-def type_of(header):
-    """Returns the name of the type or trait in a header."""
+def without_parameters(header):
+    """Returns a header without what is between angle brackets."""
     bare = header
     while re.search(r"<[^<>]*>", bare):
         bare = re.sub(r"<[^<>]*>", "", bare)
+    return bare
+
+
+def type_of(header):
+    """Returns the name of the type or trait in a header."""
     kind = r"(?:unsafe )?(?:impl|trait|struct|enum|type)\s*(?:.* for )?"
-    found = re.match(kind + r"&?(?:'\w+ )?(?:mut )?((?:\w+::)*\w+)", bare)
+    found = re.match(kind + r"&?(?:'\w+ )?(?:mut )?((?:\w+::)*\w+)", without_parameters(header))
     return found[1] if found else ""
 
 
@@ -410,7 +415,7 @@ def hidden_in(path):
 
 
 def is_hidden(header, hidden):
-    trait = re.search(r"(\w+)(?:<.*>)? for ", header)
+    trait = re.search(r"(\w+) for ", without_parameters(header))
     return type_of(header) in hidden or trait is not None and trait[1] in hidden
 
 

@@ -2,6 +2,7 @@
 //! (`replaced.rt`).
 #![tactic(auto)]
 
+mod kinds;
 mod replaced;
 mod text;
 mod units;

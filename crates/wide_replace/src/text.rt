@@ -1,10 +1,10 @@
 //! Occurrences that are replaced in views of well-formed text.
-ghost use Rattle.std.specs.Prelude.{◌≡◌, map, IfOk};
+ghost use Rattle.std.specs.Prelude.{◌≡◌, [], map, IsOk, IfOk};
 ghost use Rattle.wide_search.specs.Cut.{substrings};
 ghost use Rattle.wide_search.specs.Substrings.{joined_with};
 ghost use Rattle.wide_replace.specs.Replaced.{joined_first};
 
-use crate::replaced::{count_cuts, push_replaced, replaced_len};
+use crate::replaced::replaced_first;
 use std::alloc::Allocator;
 use wide_error::OutOfMemory;
 use wide_ustr::SplitView;
@@ -21,10 +21,11 @@ use wide_utfstring::UtfString;
 /// ```
 /// use widestring::replace::UtfStrReplace;
 ///
-/// let text = Utf16String::from_str(rt.alloc(), "a😀b😀")?;
-/// let with = Utf16String::from_str(rt.alloc(), ":)")?;
-/// let text = text.as_utfstr().replace(rt.alloc(), '😀', with.as_utfstr())?;
-/// assert!(rt; text.as_utfstr().eq_str("a:)b:)"));
+/// let text = Utf16Str::from_slice(&[0x61, 0x2c, 0x62])?;
+/// let comma = Utf16Str::from_slice(&[0x2c])?;
+/// let nothing = Utf16Str::from_slice(&[])?;
+/// let text = text.replace(rt.alloc(), comma, nothing)?;
+/// assert!(rt; text.as_utfstr().eq_str("ab"));
 /// ```
 pub trait UtfStrReplace<C: FaultUnit, P>: SplitView<P> {
     /// Replaces each occurrence of the needle, in a new string. Each occurrence is the first one after the one before,
@@ -35,7 +36,8 @@ pub trait UtfStrReplace<C: FaultUnit, P>: SplitView<P> {
     ///
     /// # Errors
     ///
-    /// [`OutOfMemory`] if the allocation fails, or if the length of the result exceeds `usize::MAX`.
+    /// [`OutOfMemory`] if the allocation fails, or if the length of the result exceeds `usize::MAX`. It never fails if
+    /// the result is empty.
     ///
     /// # Example
     ///
@@ -53,7 +55,8 @@ pub trait UtfStrReplace<C: FaultUnit, P>: SplitView<P> {
         needle: P,
         with: Self,
     ) -> Result<UtfString<C, A>, OutOfMemory>
-        ensures units { IfOk result (λ s. map C.number s.units ≡ joined_with (Self.numbers_seen with) (substrings (Self.needle_numbers needle) (Self.numbers_seen self))) };
+        ensures units { IfOk result (λ s. map C.number s.units ≡ joined_with (Self.numbers_seen with) (substrings (Self.needle_numbers needle) (Self.numbers_seen self))) }
+        ensures succeeds { joined_with (Self.numbers_seen with) (substrings (Self.needle_numbers needle) (Self.numbers_seen self)) ≡ [] → IsOk result };
 
     /// Replaces the first `count` occurrences of the needle, in a new string. Each occurrence is the first one after
     /// the one before, so occurrences do not overlap. If `count` is 0, or the needle does not occur or is empty, the
@@ -62,7 +65,8 @@ pub trait UtfStrReplace<C: FaultUnit, P>: SplitView<P> {
     ///
     /// # Errors
     ///
-    /// [`OutOfMemory`] if the allocation fails, or if the length of the result exceeds `usize::MAX`.
+    /// [`OutOfMemory`] if the allocation fails, or if the length of the result exceeds `usize::MAX`. It never fails if
+    /// the result is empty.
     ///
     /// # Example
     ///
@@ -83,7 +87,8 @@ pub trait UtfStrReplace<C: FaultUnit, P>: SplitView<P> {
         with: Self,
         count: usize,
     ) -> Result<UtfString<C, A>, OutOfMemory>
-        ensures units { IfOk result (λ s. map C.number s.units ≡ joined_first count (Self.numbers_seen with) (Self.needle_numbers needle) (substrings (Self.needle_numbers needle) (Self.numbers_seen self))) };
+        ensures units { IfOk result (λ s. map C.number s.units ≡ joined_first count (Self.numbers_seen with) (Self.needle_numbers needle) (substrings (Self.needle_numbers needle) (Self.numbers_seen self))) }
+        ensures succeeds { joined_first count (Self.numbers_seen with) (Self.needle_numbers needle) (substrings (Self.needle_numbers needle) (Self.numbers_seen self)) ≡ [] → IsOk result };
 }
 
 impl<'p, C: FaultUnit> UtfStrReplace<C, UtfStr<'p, C>> for UtfStr<'_, C> {
@@ -103,13 +108,7 @@ impl<'p, C: FaultUnit> UtfStrReplace<C, UtfStr<'p, C>> for UtfStr<'_, C> {
         with: Self,
         count: usize,
     ) -> Result<UtfString<C, A>, OutOfMemory> {
-        let found = count_cuts(self, needle, count);
-        let Some(len) = replaced_len(self.len(), found, needle.len(), with.len()) else {
-            return Err(OutOfMemory);
-        };
-        let mut string = UtfString::with_capacity(alloc, len)?;
-        push_replaced(&mut string, self, needle, with, count)?;
-        Ok(string)
+        replaced_first(alloc, self, needle, with, count)
     }
 }
 
@@ -130,12 +129,6 @@ impl<C: FaultUnit> UtfStrReplace<C, char> for UtfStr<'_, C> {
         with: Self,
         count: usize,
     ) -> Result<UtfString<C, A>, OutOfMemory> {
-        let found = count_cuts(self, needle, count);
-        let Some(len) = replaced_len(self.len(), found, C::char_len(needle), with.len()) else {
-            return Err(OutOfMemory);
-        };
-        let mut string = UtfString::with_capacity(alloc, len)?;
-        push_replaced(&mut string, self, needle, with, count)?;
-        Ok(string)
+        replaced_first(alloc, self, needle, with, count)
     }
 }

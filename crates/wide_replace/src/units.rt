@@ -1,10 +1,10 @@
 //! Occurrences that are replaced in views of any units.
-ghost use Rattle.std.specs.Prelude.{◌≡◌, map, IfOk};
+ghost use Rattle.std.specs.Prelude.{◌≡◌, [], map, IsOk, IfOk};
 ghost use Rattle.wide_search.specs.Cut.{substrings};
 ghost use Rattle.wide_search.specs.Substrings.{joined_with};
 ghost use Rattle.wide_replace.specs.Replaced.{joined_first};
 
-use crate::replaced::{count_cuts, push_replaced, replaced_len};
+use crate::replaced::replaced_first;
 use std::alloc::Allocator;
 use wide_error::OutOfMemory;
 use wide_ustr::{SplitView, UStr};
@@ -19,10 +19,10 @@ use wide_utferror::FaultUnit;
 /// ```
 /// use widestring::replace::UStrReplace;
 ///
-/// let row = U16Str::from_slice(&[0x61, 0x3b, 0xd800, 0x3b]);
-/// let tab = U16Str::from_slice(&[0x9]);
-/// let row = row.replace(rt.alloc(), U16Str::from_slice(&[0x3b]), tab)?;
-/// assert!(rt; row.as_slice() == [0x61, 0x9, 0xd800, 0x9].as_slice());
+/// let text = U16Str::from_slice(&[0x61, 0x61, 0x61]);
+/// let dash = U16Str::from_slice(&[0x2d]);
+/// let text = text.replacen(rt.alloc(), U16Str::from_slice(&[0x61, 0x61]), dash, 9)?;
+/// assert!(rt; text.as_slice() == [0x2d, 0x61].as_slice());
 /// ```
 pub trait UStrReplace<C: FaultUnit, P>: SplitView<P> {
     /// Replaces each occurrence of the needle, in a new string. Each occurrence is the first one after the one before,
@@ -33,7 +33,8 @@ pub trait UStrReplace<C: FaultUnit, P>: SplitView<P> {
     ///
     /// # Errors
     ///
-    /// [`OutOfMemory`] if the allocation fails, or if the length of the result exceeds `usize::MAX`.
+    /// [`OutOfMemory`] if the allocation fails, or if the length of the result exceeds `usize::MAX`. It never fails if
+    /// the result is empty.
     ///
     /// # Example
     ///
@@ -51,7 +52,8 @@ pub trait UStrReplace<C: FaultUnit, P>: SplitView<P> {
         needle: P,
         with: Self,
     ) -> Result<UString<C, A>, OutOfMemory>
-        ensures units { IfOk result (λ s. map C.number s.units ≡ joined_with (Self.numbers_seen with) (substrings (Self.needle_numbers needle) (Self.numbers_seen self))) };
+        ensures units { IfOk result (λ s. map C.number s.units ≡ joined_with (Self.numbers_seen with) (substrings (Self.needle_numbers needle) (Self.numbers_seen self))) }
+        ensures succeeds { joined_with (Self.numbers_seen with) (substrings (Self.needle_numbers needle) (Self.numbers_seen self)) ≡ [] → IsOk result };
 
     /// Replaces the first `count` occurrences of the needle, in a new string. Each occurrence is the first one after
     /// the one before, so occurrences do not overlap. If `count` is 0, or the needle does not occur or is empty, the
@@ -60,7 +62,8 @@ pub trait UStrReplace<C: FaultUnit, P>: SplitView<P> {
     ///
     /// # Errors
     ///
-    /// [`OutOfMemory`] if the allocation fails, or if the length of the result exceeds `usize::MAX`.
+    /// [`OutOfMemory`] if the allocation fails, or if the length of the result exceeds `usize::MAX`. It never fails if
+    /// the result is empty.
     ///
     /// # Example
     ///
@@ -79,7 +82,8 @@ pub trait UStrReplace<C: FaultUnit, P>: SplitView<P> {
         with: Self,
         count: usize,
     ) -> Result<UString<C, A>, OutOfMemory>
-        ensures units { IfOk result (λ s. map C.number s.units ≡ joined_first count (Self.numbers_seen with) (Self.needle_numbers needle) (substrings (Self.needle_numbers needle) (Self.numbers_seen self))) };
+        ensures units { IfOk result (λ s. map C.number s.units ≡ joined_first count (Self.numbers_seen with) (Self.needle_numbers needle) (substrings (Self.needle_numbers needle) (Self.numbers_seen self))) }
+        ensures succeeds { joined_first count (Self.numbers_seen with) (Self.needle_numbers needle) (substrings (Self.needle_numbers needle) (Self.numbers_seen self)) ≡ [] → IsOk result };
 }
 
 impl<'p, C: FaultUnit> UStrReplace<C, UStr<'p, C>> for UStr<'_, C> {
@@ -99,12 +103,6 @@ impl<'p, C: FaultUnit> UStrReplace<C, UStr<'p, C>> for UStr<'_, C> {
         with: Self,
         count: usize,
     ) -> Result<UString<C, A>, OutOfMemory> {
-        let found = count_cuts(self, needle, count);
-        let Some(len) = replaced_len(self.len(), found, needle.len(), with.len()) else {
-            return Err(OutOfMemory);
-        };
-        let mut string = UString::with_capacity(alloc, len)?;
-        push_replaced(&mut string, self, needle, with, count)?;
-        Ok(string)
+        replaced_first(alloc, self, needle, with, count)
     }
 }

@@ -1,11 +1,16 @@
 -- Texts that begin with the same characters are in the order of what follows these.
-use Rattle.std.proofs.Common.{◌≡◌, ℕ, zero, suc, ◌≤◌, List, [], ◌∷◌, ◌++◌, map, take, Ordering, refl, sym, ap, ◌∙◌, arith}
-use Rattle.std.proofs.lemmas.List.{map-append, take-take}
+use Rattle.std.proofs.Common.{◌≡◌, ℕ, ◌≤◌, List, [], ◌∷◌, ◌++◌, map, take, drop, length, Ordering, refl, sym, ap, ◌∙◌, subst, arith}
+use Rattle.std.proofs.lemmas.List.{map-append, take-take, take-map, take-append-drop, length-map, length-take-le}
 use Rattle.std.specs.Ordering.{nat_cmp, ordering_then}
 use Rattle.std.specs.Cmp.Lexicographic.{slice_cmp}
 use Rattle.wide_forms.specs.EncodingForm.{EncodingForm}
-use Rattle.wide_forms.specs.Items.{chars, IsWellFormed}
+use Rattle.wide_forms.specs.Items.{items, chars, IsWellFormed, IsBoundary}
+use Rattle.wide_forms.specs.Offsets.{IsCharBoundary}
+use Rattle.wide_forms.specs.Laws.Boundaries.{IsBoundary-of_cut}
+use Rattle.wide_forms.specs.Laws.Ends.{IsCut-after}
+use Rattle.wide_forms.specs.Laws.Offsets.{IsWellFormed-take}
 use Rattle.wide_forms.specs.Laws.Splices.{chars-append}
+use Rattle.wide_unit.proofs.CharBoundaries.{IsBoundary-of_char, IsCharBoundary-of}
 
 same_number : (x : ℕ) → (o : Ordering) → ordering_then (nat_cmp x x) o ≡ o
 same_number x o = grind arith
@@ -27,3 +32,18 @@ module _ {X : Type 0} (number : X → ℕ) (form : EncodingForm) where
   order-of_rest us vs p q xs ys shared at well_p well_q left right is_p is_q same within =
       let alike : q ≡ p = is_q ∙ sym (take-take at shared vs within) ∙ ap (take at) (sym same) ∙ take-take at shared us within ∙ sym is_p in
       sym (ap (λ cs. slice_cmp nat_cmp cs (text vs)) (text-parted us p xs well_p left) ∙ ap (slice_cmp nat_cmp (text p ++ text xs)) (text-parted vs q ys well_q right ∙ ap (λ ws. text ws ++ text ys) alike) ∙ cmp-skip (text p) (text xs) (text ys))
+
+  -- The offset after well-formed units at the beginning is a boundary.
+  boundary-after : (ws : List ℕ) (at : ℕ) → at ≤ length ws → IsWellFormed form (take at ws) → IsBoundary form ws at
+  boundary-after ws at within well =
+      let b = IsBoundary-of_cut form (take at ws) (drop at ws) (IsCut-after form (take at ws) (drop at ws) well) in
+      (b.0, b.1, ap (items form) (sym (take-append-drop at ws)) ∙ b.2, b.3 ∙ length-take-le at ws within)
+
+  -- A boundary of one text, within the units that both have at their beginning, is one of the other.
+  pub boundary-shared : (us vs : List X) (shared at : ℕ) → IsWellFormed form (map number us) → IsWellFormed form (map number vs) → shared ≤ length vs → take shared us ≡ take shared vs → at ≤ shared → IsCharBoundary form (map number us) at
+      → IsCharBoundary form (map number vs) at
+  boundary-shared us vs shared at well_us well_vs long same within here =
+      let alike : take at us ≡ take at vs = sym (take-take at shared us within) ∙ ap (take at) same ∙ take-take at shared vs within in
+      let numbers : take at (map number us) ≡ take at (map number vs) = take-map number at us ∙ ap (map number) alike ∙ sym (take-map number at vs) in
+      let well = IsWellFormed-take form (map number us) well_us at (IsBoundary-of_char form (map number us) at here) in
+      IsCharBoundary-of form (map number vs) at well_vs (boundary-after (map number vs) at (omega (arith, long, within, length-map vs number)) (subst (λ ws. IsWellFormed form ws) numbers well))

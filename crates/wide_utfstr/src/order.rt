@@ -52,11 +52,6 @@ impl<C: Unit> UtfStr<'_, C> {
     {
         let shared = common_prefix(self.as_slice(), other.as_slice());
         let at = self.floor_char_boundary(shared);
-        // Within the prefix that both texts share, a boundary of one is a boundary of the other. The test saves a proof
-        // of that.
-        if !other.is_char_boundary(at) {
-            return compare_chars(self, other);
-        }
         let (_, ours) = self.split_at(at);
         let (_, theirs) = other.split_at(at);
         compare_chars(ours, theirs)
