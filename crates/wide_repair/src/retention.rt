@@ -126,7 +126,8 @@ pub(crate) fn retain_after(
     if units.is_empty() {
         return 0;
     }
-    // No unit precedes the first one. In its place is 0, repaired to 1 if a fault precedes the units, and else to 0.
+    // No unit precedes the first one. 0 is passed as the unit before it, and as that unit repaired 1 if a fault precedes
+    // the units, and otherwise 0: a unit that repair changes is a fault.
     let first = is_retained(policy, 0, u16::from(after_fault), units[0], repaired[0]);
     let mut at = put_one(first, repaired[0], compressed, 0);
     let mut done = 1;

@@ -147,7 +147,8 @@ fn first_in<L: Lane>(front: &[L], back: &[L], first: L, last: L) -> usize
     at
 }
 
-// Returns the index after the last one at which both units match, or 0. The last block overlaps the one before it.
+// Returns the index after the last one at which both units match, or 0. It reads from the end. The block that it reads
+// last, at the beginning of the lists, may overlap the block after it, so that no index is left over.
 #[inline(always)]
 fn last_in<L: Lane>(front: &[L], back: &[L], first: L, last: L) -> usize
     requires { length front.now ≡ length back.now }

@@ -36,11 +36,12 @@ fn first_difference<C: Unit, S: Side>(
     index
 }
 
-// Where a search stopped. From the front the needle does not occur before `at`; if it was found, it occurs at `at`.
-// From the back it does not occur from `at` on; if it was found, it occurs at `at - 1`.
+// Where a search stopped. For `find_two_way` the needle does not occur before `at`; if it was found, it occurs at `at`.
+// For `rfind_two_way` it does not occur from `at` on; if it was found, it occurs at `at - 1`. `next_occurrence` counts
+// `at` from the side on which it begins; if the needle was found, it is at `at`.
 #[derive(Clone, Copy)]
 pub(crate) struct Stop {
-    // Where the search stopped, counted as its function says.
+    // The offset at which the search stopped.
     pub(crate) at: usize,
     // Whether the needle was found.
     pub(crate) is_found: bool,

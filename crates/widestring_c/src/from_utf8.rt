@@ -16,21 +16,21 @@ use wide_from_units::is_after_fault;
 use wide_from_utf8::from_utf8_prefix;
 use wide_unit::Unit;
 
-// The size of the array, in units, that the units of an input of at most as many bytes are copied from. A small array
-// takes less time to clear.
+// The size, in units, of the array through which an input of at most 32 bytes is decoded. A small array takes less time
+// to clear.
 const FEW: usize = 32;
 
-// The size of the array, in units, that the units of an input of more than `FEW` bytes are copied from: 48 steps of at
-// most sixteen.
+// The size, in units, of the array through which an input of more than 32 bytes is decoded: that of 48 steps of
+// `from_utf8_prefix`, each of at most sixteen units.
 const MANY: usize = 48 * 16;
 
 // Units are decoded directly into the buffer while the rest of the text yields at least this many units.
 const WINDOW: usize = 256;
 
 // Decodes text to the offset `at` of the buffer, chunk by chunk, and returns the offset after it, whether it fits or
-// not, or `usize::MAX` if the offset is greater than that. Decoding may overwrite units after those that it reports. So
-// it writes directly to the buffer only where the rest of the text will overwrite them: four bytes yield at least one
-// unit.
+// not, or `usize::MAX` if the offset is greater than that. `from_utf8_prefix` may overwrite units after those that it
+// reports as written. So it is given the buffer itself only as far as the rest of the text is certain to reach: four
+// bytes yield at least one unit.
 fn put_text<C: Unit>(text: &[u8], units: &mut [C], at: usize, chunk: &mut [C]) -> usize
     requires text { IsUtf8 text.now }
     requires space { length units.old < 2 ^ 64 - 1 }
@@ -68,8 +68,8 @@ fn text_len(text: &[u8]) -> usize
     first_utf8_chunk(text).valid
 }
 
-// Converts any bytes at the start of the buffer, and replaces maximal subparts of ill-formed sequences by the policy.
-// Returns how many units the result has.
+// Converts any bytes, and replaces maximal subparts of ill-formed sequences by the policy. Writes the result at the start
+// of the buffer, and returns how many units it has.
 fn put_lossy<C: Unit>(text: &[u8], policy: Policy, units: &mut [C], chunk: &mut [C]) -> usize
     requires space { length units.old < 2 ^ 64 - 1 }
     requires chunk { 16 ≤ length chunk.old }
