@@ -24,5 +24,5 @@ pub use iter::{
 pub use line_indices::LineIndices;
 pub use lines::{LineView, Lines};
 pub use lossy_with::{CharsLossyWith, after_faults};
-pub use split::{Split, SplitView};
+pub use split::{OneUnit, Split, SplitView};
 pub use view::{U16Str, U32Str, UStr, WideChar, WideStr};
