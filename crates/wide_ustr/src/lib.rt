@@ -13,6 +13,7 @@ mod lossy_with;
 mod offsets;
 mod search;
 mod split;
+mod split_n;
 mod text;
 mod view;
 
@@ -25,4 +26,5 @@ pub use line_indices::LineIndices;
 pub use lines::{LineView, Lines};
 pub use lossy_with::{CharsLossyWith, after_faults};
 pub use split::{OneUnit, Split, SplitView};
+pub use split_n::SplitN;
 pub use view::{U16Str, U32Str, UStr, WideChar, WideStr};
