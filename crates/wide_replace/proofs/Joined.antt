@@ -7,19 +7,8 @@ use Rattle.wide_search.specs.Cut.{substrings, substrings-are, substrings-whole}
 use Rattle.wide_search.specs.Substrings.{AreSubstrings, joined_with}
 use Rattle.wide_search.specs.Laws.Cuts.{substrings-at_most}
 use Rattle.wide_search.specs.Laws.Occurrences.{substrings-joined}
+use Rattle.wide_ustr.proofs.Few.{some-substrings, whole-joined}
 use Rattle.wide_replace.specs.Replaced.{joined_first}
-
-some_in : (needle whole : List ℕ) (parts : List (List ℕ)) → AreSubstrings needle whole parts → 0 < length parts
-some_in needle whole [] are = absurd are
-some_in needle whole (part ∷ parts) are = omega arith
-
-pub some-substrings : (needle whole : List ℕ) → 0 < length (substrings needle whole)
-some-substrings [] whole = rw (substrings-whole whole) (omega arith)
-some-substrings (p ∷ needle) whole = some_in (p ∷ needle) whole (substrings (p ∷ needle) whole) (substrings-are (p ∷ needle) whole (omega arith))
-
-whole-joined : (needle whole : List ℕ) → joined_with needle (substrings needle whole) ≡ whole
-whole-joined [] whole = ap (joined_with []) (substrings-whole whole)
-whole-joined (p ∷ needle) whole = substrings-joined (p ∷ needle) (substrings (p ∷ needle) whole) whole (substrings-are (p ∷ needle) whole (omega arith))
 
 joined_alone : (left : ℕ) (with needle rest : List ℕ) → joined_first left with needle (rest ∷ []) ≡ rest
 joined_alone zero with needle rest = refl

@@ -1,6 +1,8 @@
 //! The laws of occurrences and of the substrings between them. Each law is a function that does nothing, and its
 //! contract is the law.
 
+ghost use Rattle.std.specs.Prelude.{◌≡◌, ◌∷◌, []};
+ghost use Rattle.wide_search.specs.Cut.{substrings};
 ghost use Rattle.wide_search.specs.Statements.{FirstIsUnique, LastIsUnique, SubstringsExist, SubstringsAreUnique, SubstringsJoin, WholeAtNoNeedle, NeedlesAreBetweenCharacters, NeedlesAreOfCharacters, FirstIsOfCharacters, LastIsOfCharacters};
 
 /// States that a needle has at most one first occurrence in a list, and at most one last one.
@@ -28,4 +30,13 @@ pub fn needles_in_text()
     ensures characters { NeedlesAreOfCharacters }
     ensures first { FirstIsOfCharacters }
     ensures last { LastIsOfCharacters }
+{}
+
+/// States worked examples: the substrings of a list that is split at a needle that overlaps itself, at half of a
+/// surrogate pair, at a unit that occurs twice, the second time at the end, and at itself.
+pub fn worked_substrings()
+    ensures overlapping { substrings (0x61 ∷ 0x61 ∷ []) (0x61 ∷ 0x61 ∷ 0x61 ∷ []) ≡ [] ∷ (0x61 ∷ []) ∷ [] }
+    ensures half { substrings (0xDE00 ∷ []) (0xD83D ∷ 0xDE00 ∷ []) ≡ (0xD83D ∷ []) ∷ [] ∷ [] }
+    ensures fields { substrings (0x3B ∷ []) (0x61 ∷ 0x3B ∷ 0x62 ∷ 0x3B ∷ []) ≡ (0x61 ∷ []) ∷ (0x62 ∷ []) ∷ [] ∷ [] }
+    ensures alone { substrings (0x3B ∷ []) (0x3B ∷ []) ≡ [] ∷ [] ∷ [] }
 {}

@@ -2,14 +2,15 @@
 ghost use Rattle.std.specs.Prelude.{◌≡◌, ◌↔◌, ◌+◌, ◌++◌, ◌∷◌, [], ◌≤◌, ◌<◌, ◌^◌, length, map, IsTrue, IsSome, IfNone, IfSome};
 ghost use Rattle.wide_forms.specs.EncodingForm.{code_units};
 ghost use Rattle.wide_search.specs.Occurrences.{OccursIn, IsFirstAt, IsLastAt, OccursNowhere, BeginsWith, EndsWith, IsFirstSplit, IsLastSplit};
-ghost use Rattle.wide_search.specs.Substrings.{AreSubstrings};
+ghost use Rattle.wide_search.specs.Substrings.{AreSubstrings, joined_with};
 ghost use Rattle.wide_search.specs.Cut.{substrings};
-ghost use Rattle.wide_ustr.specs.Split.{unit_substrings_left};
+ghost use Rattle.wide_ustr.specs.Split.{unit_substrings_left, one_substrings_left, char_substrings_left};
+ghost use Rattle.wide_ustr.specs.SplitN.{splitn, unit_splitn_left, one_splitn_left, char_splitn_left};
 ghost use Rattle.wide_ustr.specs.View.{units_seen};
 ghost use Rattle.wide_ucstr.specs.View.{contents_seen};
 
 use crate::view::UCStr;
-use wide_ustr::{Split, UStr};
+use wide_ustr::{OneUnit, Split, SplitN, UStr};
 use wide_utferror::FaultUnit;
 
 impl<'a, C: FaultUnit> UCStr<'a, C> {
@@ -151,5 +152,101 @@ impl<'a, C: FaultUnit> UCStr<'a, C> {
         ensures fits { length (unit_substrings_left C.number result) < 2 ^ 64 }
     {
         self.as_ustr().split(needle.as_ustr())
+    }
+
+    /// Returns an iterator over the substrings of the contents between the occurrences of a unit, from the front, as
+    /// views without a NUL. The unit may be half of a surrogate pair. If it occurs at the start, at the end, or twice in
+    /// a row, the substring there is empty. If it does not occur, as a NUL never does, the contents are the only
+    /// substring.
+    ///
+    /// # Example
+    ///
+    /// ```
+    /// let row = U16CStr::from_slice(&[0x61, 0x3b, 0xd800, 0])?;
+    /// let mut fields = row.split_unit(0x3b);
+    /// assert!(rt; fields.next() == Some(U16Str::from_slice(&[0x61])));
+    /// assert!(rt; fields.next() == Some(U16Str::from_slice(&[0xd800])));
+    /// assert!(rt; fields.next().is_none());
+    /// ```
+    pub fn split_unit(self, unit: C) -> Split<UStr<'a, C>, OneUnit<C>>
+        ensures left { one_substrings_left C.number result ≡ substrings (C.number unit ∷ []) (map C.number (contents_seen self.entry)) }
+        ensures cut { AreSubstrings (C.number unit ∷ []) (map C.number (contents_seen self.entry)) (one_substrings_left C.number result) }
+        ensures most { length (one_substrings_left C.number result) ≤ length (contents_seen self.entry) + 1 }
+        ensures fits { length (one_substrings_left C.number result) < 2 ^ 64 }
+    {
+        self.as_ustr().split_unit(unit)
+    }
+
+    /// Returns an iterator over the substrings of the contents between the occurrences of a character, from the front,
+    /// as views without a NUL. Half of a surrogate pair is no character and separates nothing. If the character occurs
+    /// at the start, at the end, or twice in a row, the substring there is empty. If it does not occur, the contents are
+    /// the only substring.
+    ///
+    /// # Example
+    ///
+    /// ```
+    /// let text = U16CStr::from_slice(&[0x61, 0xd83d, 0xde00, 0xde00, 0])?;
+    /// let mut parts = text.split_char('😀');
+    /// assert!(rt; parts.next() == Some(U16Str::from_slice(&[0x61])));
+    /// assert!(rt; parts.next() == Some(U16Str::from_slice(&[0xde00])));
+    /// assert!(rt; parts.next().is_none());
+    /// ```
+    pub fn split_char(self, c: char) -> Split<UStr<'a, C>, char>
+        ensures left { char_substrings_left C.form C.number result ≡ substrings (code_units C.form c) (map C.number (contents_seen self.entry)) }
+        ensures cut { AreSubstrings (code_units C.form c) (map C.number (contents_seen self.entry)) (char_substrings_left C.form C.number result) }
+        ensures most { length (char_substrings_left C.form C.number result) ≤ length (contents_seen self.entry) + 1 }
+        ensures fits { length (char_substrings_left C.form C.number result) < 2 ^ 64 }
+    {
+        self.as_ustr().split_char(c)
+    }
+
+    /// Returns an iterator over the first substrings of the contents between the occurrences of the separator, without
+    /// its NUL, at most `count`, from the front, as views without a NUL. They are those of [`UCStr::split`], but the
+    /// last one of that number is all that is left of the contents, with the separators in it. If `count` is 0 there
+    /// are none.
+    pub fn splitn<'p>(self, count: usize, needle: UCStr<'p, C>) -> SplitN<UStr<'a, C>, UStr<'p, C>>
+        ensures left { unit_splitn_left C.number result ≡ splitn count (map C.number (contents_seen needle.entry)) (substrings (map C.number (contents_seen needle.entry)) (map C.number (contents_seen self.entry))) }
+        ensures joined { 0 < count → joined_with (map C.number (contents_seen needle.entry)) (unit_splitn_left C.number result) ≡ map C.number (contents_seen self.entry) }
+        ensures whole { count ≡ 1 → unit_splitn_left C.number result ≡ map C.number (contents_seen self.entry) ∷ [] }
+        ensures most { length (unit_splitn_left C.number result) ≤ count }
+        ensures fits { length (unit_splitn_left C.number result) < 2 ^ 64 }
+    {
+        self.as_ustr().splitn(count, needle.as_ustr())
+    }
+
+    /// Returns an iterator over the first substrings of the contents between the occurrences of a unit, at most `count`,
+    /// from the front, as views without a NUL. They are those of [`UCStr::split_unit`], but the last one of that number
+    /// is all that is left of the contents, with the separators in it. If `count` is 0 there are none.
+    ///
+    /// # Example
+    ///
+    /// ```
+    /// let setting = U16CStr::from_slice(&[0x61, 0x3d, 0x62, 0x3d, 0])?;
+    /// let mut parts = setting.splitn_unit(2, 0x3d);
+    /// assert!(rt; parts.next() == Some(U16Str::from_slice(&[0x61])));
+    /// assert!(rt; parts.next() == Some(U16Str::from_slice(&[0x62, 0x3d])));
+    /// assert!(rt; parts.next().is_none());
+    /// ```
+    pub fn splitn_unit(self, count: usize, unit: C) -> SplitN<UStr<'a, C>, OneUnit<C>>
+        ensures left { one_splitn_left C.number result ≡ splitn count (C.number unit ∷ []) (substrings (C.number unit ∷ []) (map C.number (contents_seen self.entry))) }
+        ensures joined { 0 < count → joined_with (C.number unit ∷ []) (one_splitn_left C.number result) ≡ map C.number (contents_seen self.entry) }
+        ensures whole { count ≡ 1 → one_splitn_left C.number result ≡ map C.number (contents_seen self.entry) ∷ [] }
+        ensures most { length (one_splitn_left C.number result) ≤ count }
+        ensures fits { length (one_splitn_left C.number result) < 2 ^ 64 }
+    {
+        self.as_ustr().splitn_unit(count, unit)
+    }
+
+    /// Returns an iterator over the first substrings of the contents between the occurrences of a character, at most
+    /// `count`, from the front, as views without a NUL. They are those of [`UCStr::split_char`], but the last one of
+    /// that number is all that is left of the contents, with the separators in it. If `count` is 0 there are none.
+    pub fn splitn_char(self, count: usize, c: char) -> SplitN<UStr<'a, C>, char>
+        ensures left { char_splitn_left C.form C.number result ≡ splitn count (code_units C.form c) (substrings (code_units C.form c) (map C.number (contents_seen self.entry))) }
+        ensures joined { 0 < count → joined_with (code_units C.form c) (char_splitn_left C.form C.number result) ≡ map C.number (contents_seen self.entry) }
+        ensures whole { count ≡ 1 → char_splitn_left C.form C.number result ≡ map C.number (contents_seen self.entry) ∷ [] }
+        ensures most { length (char_splitn_left C.form C.number result) ≤ count }
+        ensures fits { length (char_splitn_left C.form C.number result) < 2 ^ 64 }
+    {
+        self.as_ustr().splitn_char(count, c)
     }
 }

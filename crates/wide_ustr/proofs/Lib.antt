@@ -1,3 +1,4 @@
 pub mod IndexedLemmas
 pub mod FaultRuns
 pub mod SubstringCounts
+pub mod Few

@@ -5,4 +5,5 @@ pub mod LossyWith
 pub mod Lines
 pub mod LineIndices
 pub mod Split
+pub mod SplitN
 pub mod Printed

@@ -1,8 +1,10 @@
 -- What an iterator over the substrings of a view will yield.
-use Rattle.std.specs.Prelude.{ℕ, List, [], Option, Some, None}
+use Rattle.std.specs.Prelude.{ℕ, List, [], ◌∷◌, Option, Some, None}
+use Rattle.wide_forms.specs.EncodingForm.{EncodingForm, code_units}
 use Rattle.wide_search.specs.Cut.{substrings}
 use Rattle.wide_ustr.specs.View.{numbers_seen}
 use Rattle.wide_ustr.specs.declared.view.UStr.{UStr}
+use Rattle.wide_ustr.specs.declared.split.OneUnit.{OneUnit}
 use Rattle.wide_ustr.specs.declared.split.Split.{Split}
 
 -- The substrings of the view that is left, given the numbers of its units and of a separator, or none if no view is
@@ -16,6 +18,19 @@ substrings_of_rest seen needle (Some view) = substrings needle (seen view)
 abbrev pub substrings_left : {V P : Type 0} → (V → List ℕ) → (P → List ℕ) → Split V P → List (List ℕ)
 substrings_left seen sought s = substrings_of_rest seen (sought s.needle) s.rest
 
--- The substrings of units that are split at units.
-abbrev pub unit_substrings_left : {C : Type 0} → (C → ℕ) → Split (UStr C) (UStr C) → List (List ℕ)
-unit_substrings_left number s = substrings_left (numbers_seen number) (numbers_seen number) s
+-- The number of the unit of a separator.
+abbrev pub one_number : {C : Type 0} → (C → ℕ) → OneUnit C → List ℕ
+one_number number needle = number needle.unit ∷ []
+
+module _ {C : Type 0} where
+  -- The substrings of units that are split at units.
+  abbrev pub unit_substrings_left : (C → ℕ) → Split (UStr C) (UStr C) → List (List ℕ)
+  unit_substrings_left number s = substrings_left (numbers_seen number) (numbers_seen number) s
+
+  -- The substrings of units that are split at one unit.
+  abbrev pub one_substrings_left : (C → ℕ) → Split (UStr C) (OneUnit C) → List (List ℕ)
+  one_substrings_left number s = substrings_left (numbers_seen number) (one_number number) s
+
+  -- The substrings of units that are split at a character.
+  abbrev pub char_substrings_left : EncodingForm → (C → ℕ) → Split (UStr C) ℕ → List (List ℕ)
+  char_substrings_left form number s = substrings_left (numbers_seen number) (code_units form) s

@@ -13,6 +13,7 @@ mod lossy_with;
 mod offsets;
 mod search;
 mod split;
+mod split_n;
 mod text;
 mod view;
 
@@ -24,5 +25,6 @@ pub use iter::{
 pub use line_indices::LineIndices;
 pub use lines::{LineView, Lines};
 pub use lossy_with::{CharsLossyWith, after_faults};
-pub use split::{Split, SplitView};
+pub use split::{OneUnit, Split, SplitView};
+pub use split_n::SplitN;
 pub use view::{U16Str, U32Str, UStr, WideChar, WideStr};

@@ -2,9 +2,10 @@
 ghost use Rattle.std.specs.Prelude.{◌≡◌, ◌<◌, ◌≤◌, ◌+◌, ◌^◌, ◌∷◌, ℕ, List, [], length, None, IfNone, IfSome};
 ghost use Rattle.std.specs.Iterator.{YieldsFirstBy, at_most, UpTo};
 ghost use Rattle.std.specs.Iterator.SizeHint.{IsWithinCount};
+ghost use Rattle.wide_forms.specs.EncodingForm.{code_units};
 ghost use Rattle.wide_search.specs.Cut.{substrings};
 ghost use Rattle.wide_search.specs.Substrings.{AreSubstrings};
-ghost use Rattle.wide_ustr.specs.Split.{substrings_left, unit_substrings_left};
+ghost use Rattle.wide_ustr.specs.Split.{substrings_left, unit_substrings_left, one_number, one_substrings_left, char_substrings_left};
 ghost use Rattle.wide_ustr.specs.View.{numbers_seen};
 
 use crate::view::UStr;
@@ -12,7 +13,7 @@ use std::iter::FusedIterator;
 use wide_from_units::byte_len;
 use wide_unit::Unit;
 
-/// A view that can be split at a separator of some type: units, or a character.
+/// A view that can be split at a separator of some type: units, one unit, or a character.
 ///
 /// The Rust crate has no such trait. No call allocates.
 ///
@@ -39,8 +40,27 @@ pub trait SplitView<P>: Copy {
         ensures some { IfSome result (λ r. substrings (needle_numbers needle) (numbers_seen self) ≡ numbers_seen r.0 ∷ substrings (needle_numbers needle) (numbers_seen r.1)) };
 }
 
+/// A separator of one unit. It is a type of its own because a view that could be split both at a unit of any type and at
+/// a character would have two impls of [`SplitView`] for one type. The Rust crate has no such type.
+///
+/// # Example
+///
+/// ```
+/// use widestring::ustr::{OneUnit, SplitView};
+///
+/// let setting = U16Str::from_slice(&[0x78, 0x3d, 0x31]);
+/// let parts = setting.cut_first(OneUnit { unit: 0x3d });
+/// assert!(rt; parts.is_some_and(|(name, value)| name.len() == 1 && value.len() == 1));
+/// ```
+#[derive(Clone, Copy, Debug, Drop)]
+pub struct OneUnit<C> {
+    /// The unit.
+    pub unit: C,
+}
+
 /// An iterator over the substrings of a view between the occurrences of a separator, from the front. Made by
-/// [`UStr::split`](crate::UStr::split) and by `split` and `split_char` of the other views.
+/// [`UStr::split`](crate::UStr::split), [`UStr::split_unit`](crate::UStr::split_unit) and
+/// [`UStr::split_char`](crate::UStr::split_char), and by the calls of the other views that have these names.
 ///
 /// # Example
 ///
@@ -113,6 +133,36 @@ impl<'a, C: Unit> SplitView<UStr<'a, C>> for UStr<'_, C> {
     }
 }
 
+impl<C: Unit> SplitView<OneUnit<C>> for UStr<'_, C> {
+    ghost numbers_seen = { numbers_seen C.number };
+
+    ghost needle_numbers = { one_number C.number };
+
+    fn cut_first(self, needle: OneUnit<C>) -> Option<(Self, Self)> {
+        let Some(at) = self.find_unit(needle.unit) else {
+            return None;
+        };
+        let (substring, _) = self.split_at(at);
+        let (_, rest) = self.split_at(at + 1);
+        Some((substring, rest))
+    }
+}
+
+impl<C: Unit> SplitView<char> for UStr<'_, C> {
+    ghost numbers_seen = { numbers_seen C.number };
+
+    ghost needle_numbers = { code_units C.form };
+
+    fn cut_first(self, c: char) -> Option<(Self, Self)> {
+        let Some(at) = self.find_char(c) else {
+            return None;
+        };
+        let (substring, _) = self.split_at(at);
+        let (_, rest) = self.split_at(at + C::char_len(c));
+        Some((substring, rest))
+    }
+}
+
 impl<C: Unit> UStr<'_, C> {
     ghost use Rattle.wide_ustr.specs.View.{units_seen};
 
@@ -140,5 +190,54 @@ impl<C: Unit> UStr<'_, C> {
         // This call is for its contract: there are so few units that one more substring can be counted.
         let _bytes = byte_len(self.units);
         Split::new(self, needle)
+    }
+
+    /// Returns an iterator over the substrings between the occurrences of a unit, from the front. The unit may be half of
+    /// a surrogate pair. If it occurs at the start, at the end, or twice in a row, the substring there is empty. If it
+    /// does not occur, the whole view is the only substring.
+    ///
+    /// # Example
+    ///
+    /// ```
+    /// let row = U16Str::from_slice(&[0x61, 0x3b, 0xd800, 0x3b]);
+    /// let mut fields = row.split_unit(0x3b);
+    /// assert!(rt; fields.next() == Some(U16Str::from_slice(&[0x61])));
+    /// assert!(rt; fields.next() == Some(U16Str::from_slice(&[0xd800])));
+    /// assert!(rt; fields.next().is_some_and(|field| field.is_empty()));
+    /// assert!(rt; fields.next().is_none());
+    /// ```
+    pub fn split_unit(self, unit: C) -> Split<Self, OneUnit<C>>
+        ensures left { one_substrings_left C.number result ≡ substrings (C.number unit ∷ []) (numbers_seen C.number self.entry) }
+        ensures cut { AreSubstrings (C.number unit ∷ []) (numbers_seen C.number self.entry) (one_substrings_left C.number result) }
+        ensures most { length (one_substrings_left C.number result) ≤ length (units_seen self.entry) + 1 }
+        ensures fits { length (one_substrings_left C.number result) < 2 ^ 64 }
+    {
+        // This call is for its contract: there are so few units that one more substring can be counted.
+        let _bytes = byte_len(self.units);
+        Split::new(self, OneUnit { unit })
+    }
+
+    /// Returns an iterator over the substrings between the occurrences of a character, from the front. Half of a
+    /// surrogate pair is no character and separates nothing. If the character occurs at the start, at the end, or twice
+    /// in a row, the substring there is empty. If it does not occur, the whole view is the only substring.
+    ///
+    /// # Example
+    ///
+    /// ```
+    /// let text = U16Str::from_slice(&[0x61, 0xd83d, 0xde00, 0xde00]);
+    /// let mut parts = text.split_char('😀');
+    /// assert!(rt; parts.next() == Some(U16Str::from_slice(&[0x61])));
+    /// assert!(rt; parts.next() == Some(U16Str::from_slice(&[0xde00])));
+    /// assert!(rt; parts.next().is_none());
+    /// ```
+    pub fn split_char(self, c: char) -> Split<Self, char>
+        ensures left { char_substrings_left C.form C.number result ≡ substrings (code_units C.form c) (numbers_seen C.number self.entry) }
+        ensures cut { AreSubstrings (code_units C.form c) (numbers_seen C.number self.entry) (char_substrings_left C.form C.number result) }
+        ensures most { length (char_substrings_left C.form C.number result) ≤ length (units_seen self.entry) + 1 }
+        ensures fits { length (char_substrings_left C.form C.number result) < 2 ^ 64 }
+    {
+        // This call is for its contract: there are so few units that one more substring can be counted.
+        let _bytes = byte_len(self.units);
+        Split::new(self, c)
     }
 }

@@ -3,7 +3,9 @@ use Rattle.std.specs.Prelude.{ℕ, List}
 use Rattle.wide_forms.specs.EncodingForm.{EncodingForm, code_units}
 use Rattle.wide_unit.specs.declared.unit.Unit.{Ghosts}
 use Rattle.wide_ustr.specs.Split.{substrings_left}
+use Rattle.wide_ustr.specs.SplitN.{splitn_left}
 use Rattle.wide_ustr.specs.declared.split.Split.{Split}
+use Rattle.wide_ustr.specs.declared.split_n.SplitN.{SplitN}
 use Rattle.wide_utfstr.specs.View.{numbers_seen}
 use Rattle.wide_utfstr.specs.declared.view.UtfStr.{UtfStr}
 
@@ -15,3 +17,11 @@ module _ {C : Type 0} {g : Ghosts C} where
   -- The substrings of text that is split at a character.
   abbrev pub char_substrings_left : EncodingForm → (C → ℕ) → Split (UtfStr C g) ℕ → List (List ℕ)
   char_substrings_left form number s = substrings_left (numbers_seen number) (code_units form) s
+
+  -- At most a number of the substrings of text that is split at a text.
+  abbrev pub text_splitn_left : (C → ℕ) → SplitN (UtfStr C g) (UtfStr C g) → List (List ℕ)
+  text_splitn_left number s = splitn_left (numbers_seen number) (numbers_seen number) s
+
+  -- At most a number of the substrings of text that is split at a character.
+  abbrev pub char_splitn_left : EncodingForm → (C → ℕ) → SplitN (UtfStr C g) ℕ → List (List ℕ)
+  char_splitn_left form number s = splitn_left (numbers_seen number) (code_units form) s

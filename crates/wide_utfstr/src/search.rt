@@ -4,14 +4,15 @@ ghost use Rattle.wide_forms.specs.EncodingForm.{code_units};
 ghost use Rattle.wide_search.specs.Occurrences.{OccursIn, IsFirstAt, IsLastAt, OccursNowhere, BeginsWith, EndsWith, IsFirstSplit, IsLastSplit};
 ghost use Rattle.wide_forms.specs.Offsets.{IsCharBoundary};
 ghost use Rattle.wide_search.specs.Cut.{substrings};
-ghost use Rattle.wide_search.specs.Substrings.{AreSubstrings};
+ghost use Rattle.wide_search.specs.Substrings.{AreSubstrings, joined_with};
+ghost use Rattle.wide_ustr.specs.SplitN.{splitn};
 ghost use Rattle.wide_utfstr.specs.View.{units_seen, numbers_seen};
-ghost use Rattle.wide_utfstr.specs.Split.{text_substrings_left, char_substrings_left};
+ghost use Rattle.wide_utfstr.specs.Split.{text_substrings_left, char_substrings_left, text_splitn_left, char_splitn_left};
 
 use crate::view::UtfStr;
 use wide_from_units::byte_len;
 use wide_unit::Unit;
-use wide_ustr::{Split, SplitView};
+use wide_ustr::{Split, SplitN, SplitView};
 
 impl<C: Unit> UtfStr<'_, C> {
     /// Returns whether the view begins with the needle. It does if the needle is empty.
@@ -277,6 +278,52 @@ impl<C: Unit> UtfStr<'_, C> {
         // This call is for its contract: there are so few units that one more substring can be counted.
         let _bytes = byte_len(self.as_slice());
         Split::new(self, c)
+    }
+
+    /// Returns an iterator over the first substrings between the occurrences of the separator, at most `count`, each
+    /// well formed, from the front. They are those of [`UtfStr::split`], but the last one of that number is all that is
+    /// left of the text, with the separators in it. If `count` is 0 there are none.
+    ///
+    /// # Example
+    ///
+    /// ```
+    /// let list = Utf16Str::from_slice(&[0xe9, 0x2c, 0x20, 0x62, 0x2c, 0x20, 0x63])?;
+    /// let mut parts = list.splitn(2, Utf16Str::from_slice(&[0x2c, 0x20])?);
+    /// assert!(rt; parts.next().is_some_and(|part| part.eq_str("é")));
+    /// assert!(rt; parts.next().is_some_and(|part| part.eq_str("b, c")));
+    /// assert!(rt; parts.next().is_none());
+    /// ```
+    pub fn splitn<'p>(self, count: usize, needle: UtfStr<'p, C>) -> SplitN<Self, UtfStr<'p, C>>
+        ensures left { text_splitn_left C.number result ≡ splitn count (numbers_seen C.number needle.entry) (substrings (numbers_seen C.number needle.entry) (numbers_seen C.number self.entry)) }
+        ensures joined { 0 < count → joined_with (numbers_seen C.number needle.entry) (text_splitn_left C.number result) ≡ numbers_seen C.number self.entry }
+        ensures whole { count ≡ 1 → text_splitn_left C.number result ≡ numbers_seen C.number self.entry ∷ [] }
+        ensures most { length (text_splitn_left C.number result) ≤ count }
+        ensures fits { length (text_splitn_left C.number result) < 2 ^ 64 }
+    {
+        SplitN::new(self, needle, count)
+    }
+
+    /// Returns an iterator over the first substrings between the occurrences of a character, at most `count`, each well
+    /// formed, from the front. They are those of [`UtfStr::split_char`], but the last one of that number is all that is
+    /// left of the text, with the separators in it. If `count` is 0 there are none.
+    ///
+    /// # Example
+    ///
+    /// ```
+    /// let setting = Utf16Str::from_slice(&[0xe9, 0x3d, 0x31, 0x3d])?;
+    /// let mut parts = setting.splitn_char(2, '=');
+    /// assert!(rt; parts.next().is_some_and(|name| name.eq_str("é")));
+    /// assert!(rt; parts.next().is_some_and(|value| value.eq_str("1=")));
+    /// assert!(rt; parts.next().is_none());
+    /// ```
+    pub fn splitn_char(self, count: usize, c: char) -> SplitN<Self, char>
+        ensures left { char_splitn_left C.form C.number result ≡ splitn count (code_units C.form c) (substrings (code_units C.form c) (numbers_seen C.number self.entry)) }
+        ensures joined { 0 < count → joined_with (code_units C.form c) (char_splitn_left C.form C.number result) ≡ numbers_seen C.number self.entry }
+        ensures whole { count ≡ 1 → char_splitn_left C.form C.number result ≡ numbers_seen C.number self.entry ∷ [] }
+        ensures most { length (char_splitn_left C.form C.number result) ≤ count }
+        ensures fits { length (char_splitn_left C.form C.number result) < 2 ^ 64 }
+    {
+        SplitN::new(self, c, count)
     }
 }
 

@@ -47,6 +47,7 @@ pub use Rattle.wide_ustr.specs.LossyWith as UnitLossyWith
 pub use Rattle.wide_ustr.specs.Lines as LinesLeft
 pub use Rattle.wide_ustr.specs.LineIndices
 pub use Rattle.wide_ustr.specs.Split
+pub use Rattle.wide_ustr.specs.SplitN
 pub use Rattle.wide_ustr.specs.Printed
 pub use Rattle.wide_ustring.specs.Units
 pub use Rattle.wide_ustring.specs.CowUnits

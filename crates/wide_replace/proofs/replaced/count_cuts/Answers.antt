@@ -1,5 +1,5 @@
 use Rattle.std.proofs.Common.{arith}
-use Rattle.wide_replace.proofs.Joined.{some-substrings}
+use Rattle.wide_ustr.proofs.Few.{some-substrings}
 use Rattle.wide_replace.proofs.replaced.count_cuts.Goals as goal
 
 pub returns : goal.returns
