@@ -1,7 +1,7 @@
 //! The examples of `widestring::ustr`.
 use std::test::Fail;
 use widestring::error::{DecodeUtf16Error, Utf16ConvertError, Utf32ConvertError};
-use widestring::ustr::{LineView, SplitView, U16Str, U32Str};
+use widestring::ustr::{LineView, OneUnit, SplitView, U16Str, U32Str};
 use widestring::{Policy, U16String};
 
 #[test]
@@ -142,6 +142,27 @@ fn example_of_ustr_split(rt: HostRuntime) -> Result<(), Fail> {
 }
 
 #[test]
+fn example_of_ustr_split_unit(rt: HostRuntime) -> Result<(), Fail> {
+    let row = U16Str::from_slice(&[0x61, 0x3b, 0xd800, 0x3b]);
+    let mut fields = row.split_unit(0x3b);
+    assert!(rt; fields.next() == Some(U16Str::from_slice(&[0x61])));
+    assert!(rt; fields.next() == Some(U16Str::from_slice(&[0xd800])));
+    assert!(rt; fields.next().is_some_and(|field| field.is_empty()));
+    assert!(rt; fields.next().is_none());
+    Ok(())
+}
+
+#[test]
+fn example_of_ustr_split_char(rt: HostRuntime) -> Result<(), Fail> {
+    let text = U16Str::from_slice(&[0x61, 0xd83d, 0xde00, 0xde00]);
+    let mut parts = text.split_char('😀');
+    assert!(rt; parts.next() == Some(U16Str::from_slice(&[0x61])));
+    assert!(rt; parts.next() == Some(U16Str::from_slice(&[0xde00])));
+    assert!(rt; parts.next().is_none());
+    Ok(())
+}
+
+#[test]
 fn example_of_ustr_is_ascii(rt: HostRuntime) -> Result<(), Fail> {
     let name = U16Str::from_slice(&[0x4e, 0x61, 0x6d, 0x65]);
     assert!(rt; name.is_ascii());
@@ -193,6 +214,36 @@ fn example_of_ustr_put_le_bytes(rt: HostRuntime) -> Result<(), Fail> {
         assert!(rt; len == 4);
     }
     assert!(rt; buffer.as_slice() == [0x48, 0, 0xac, 0x20, 0, 0].as_slice());
+    Ok(())
+}
+
+#[test]
+fn example_of_ustr_splitn(rt: HostRuntime) -> Result<(), Fail> {
+    let setting = U16Str::from_slice(&[0x61, 0x3d, 0x62, 0x3d, 0x63]);
+    let mut parts = setting.splitn(2, U16Str::from_slice(&[0x3d]));
+    assert!(rt; parts.next() == Some(U16Str::from_slice(&[0x61])));
+    assert!(rt; parts.next() == Some(U16Str::from_slice(&[0x62, 0x3d, 0x63])));
+    assert!(rt; parts.next().is_none());
+    Ok(())
+}
+
+#[test]
+fn example_of_ustr_splitn_unit(rt: HostRuntime) -> Result<(), Fail> {
+    let setting = U16Str::from_slice(&[0xd800, 0x3d, 0x62, 0x3d]);
+    let mut parts = setting.splitn_unit(2, 0x3d);
+    assert!(rt; parts.next() == Some(U16Str::from_slice(&[0xd800])));
+    assert!(rt; parts.next() == Some(U16Str::from_slice(&[0x62, 0x3d])));
+    assert!(rt; parts.next().is_none());
+    Ok(())
+}
+
+#[test]
+fn example_of_ustr_splitn_char(rt: HostRuntime) -> Result<(), Fail> {
+    let text = U16Str::from_slice(&[0x61, 0xd83d, 0xde00, 0xd83d, 0xde00]);
+    let mut parts = text.splitn_char(2, '😀');
+    assert!(rt; parts.next() == Some(U16Str::from_slice(&[0x61])));
+    assert!(rt; parts.next() == Some(U16Str::from_slice(&[0xd83d, 0xde00])));
+    assert!(rt; parts.next().is_none());
     Ok(())
 }
 
@@ -274,6 +325,14 @@ fn example_of_splitview(rt: HostRuntime) -> Result<(), Fail> {
 }
 
 #[test]
+fn example_of_oneunit(rt: HostRuntime) -> Result<(), Fail> {
+    let setting = U16Str::from_slice(&[0x78, 0x3d, 0x31]);
+    let parts = setting.cut_first(OneUnit { unit: 0x3d });
+    assert!(rt; parts.is_some_and(|(name, value)| name.len() == 1 && value.len() == 1));
+    Ok(())
+}
+
+#[test]
 fn example_of_split(rt: HostRuntime) -> Result<(), Fail> {
     let path = U16Str::from_slice(&[0x43, 0x3a, 0x5c, 0x74, 0x5c, 0xe9]);
     let parts = path.split(U16Str::from_slice(&[0x5c]));
@@ -294,5 +353,13 @@ fn example_of_displayskipping(rt: HostRuntime) -> Result<(), Fail> {
     let shown = U16Str::from_slice(&[0x48, 0xdc00, 0x69, 0xfffd]).display_skipping();
     let text = shown.to_string(rt.alloc())?;
     assert!(rt; text.as_str() == "Hi");
+    Ok(())
+}
+
+#[test]
+fn example_of_splitn(rt: HostRuntime) -> Result<(), Fail> {
+    let setting = U16Str::from_slice(&[0x61, 0x3d, 0x62, 0x3d]);
+    let parts = setting.splitn(2, U16Str::from_slice(&[0x3d]));
+    assert!(rt; parts.last().is_some_and(|value| value.len() == 2));
     Ok(())
 }

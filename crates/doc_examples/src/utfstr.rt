@@ -187,6 +187,26 @@ fn example_of_utfstr_split_char(rt: HostRuntime) -> Result<(), Fail> {
 }
 
 #[test]
+fn example_of_utfstr_splitn(rt: HostRuntime) -> Result<(), Fail> {
+    let list = Utf16Str::from_slice(&[0xe9, 0x2c, 0x20, 0x62, 0x2c, 0x20, 0x63])?;
+    let mut parts = list.splitn(2, Utf16Str::from_slice(&[0x2c, 0x20])?);
+    assert!(rt; parts.next().is_some_and(|part| part.eq_str("é")));
+    assert!(rt; parts.next().is_some_and(|part| part.eq_str("b, c")));
+    assert!(rt; parts.next().is_none());
+    Ok(())
+}
+
+#[test]
+fn example_of_utfstr_splitn_char(rt: HostRuntime) -> Result<(), Fail> {
+    let setting = Utf16Str::from_slice(&[0xe9, 0x3d, 0x31, 0x3d])?;
+    let mut parts = setting.splitn_char(2, '=');
+    assert!(rt; parts.next().is_some_and(|name| name.eq_str("é")));
+    assert!(rt; parts.next().is_some_and(|value| value.eq_str("1=")));
+    assert!(rt; parts.next().is_none());
+    Ok(())
+}
+
+#[test]
 fn example_of_utfstr_is_ascii(rt: HostRuntime) -> Result<(), Fail> {
     let name = Utf16String::from_str(rt.alloc(), "Name")?;
     assert!(rt; name.as_utfstr().is_ascii());

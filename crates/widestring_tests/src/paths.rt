@@ -57,7 +57,9 @@ pub mod search {
 }
 
 pub mod search_laws {
-    pub use widestring::search::laws::{needles_in_text, one_list_of_substrings, one_offset};
+    pub use widestring::search::laws::{
+        needles_in_text, one_list_of_substrings, one_offset, worked_substrings,
+    };
 }
 
 pub mod ucstr {
@@ -109,7 +111,8 @@ pub mod ustr {
         CharIndices, CharIndicesLossy, CharIndicesLossyUtf16, CharIndicesLossyUtf32,
         CharIndicesUtf16, CharIndicesUtf32, Chars, CharsLossy, CharsLossyUtf16, CharsLossyUtf32,
         CharsLossyWith, CharsUtf16, CharsUtf32, Display, DisplaySkipping, LineIndices, LineView,
-        Lines, Split, SplitView, U16Str, U32Str, UStr, WideChar, WideStr, after_faults,
+        Lines, OneUnit, Split, SplitN, SplitView, U16Str, U32Str, UStr, WideChar, WideStr,
+        after_faults,
     };
 }
 
