@@ -1,7 +1,7 @@
 //! Ordinary callers of the library, as an application would write them: each is proved without a proof file.
 //!
-//! The callers show that what a call requires follows from the contracts of other calls: offsets that a call returned,
-//! offsets of the ends, and offsets that the caller has compared. `CALLING.md` begins with some of them. The modules
+//! They show that what a call requires follows from the contracts of other calls: offsets that a call returned, offsets
+//! of the ends, and offsets that the caller has compared. `CALLING.md` begins with some of them. The modules
 //! `examples_*` state what a call returns, mostly at concrete units: each fails if the call's contract no longer
 //! implies it.
 #![tactic(auto)]
@@ -14,6 +14,8 @@ pub mod examples_c_strings;
 pub mod examples_decoders;
 pub mod examples_faults;
 pub mod examples_printing;
+pub mod examples_replaced;
+pub mod examples_split;
 pub mod examples_strings;
 pub mod examples_substrings;
 pub mod examples_texts;
