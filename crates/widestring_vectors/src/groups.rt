@@ -17,6 +17,7 @@ mod policies;
 mod prints;
 mod replaced;
 mod searches;
+mod splits;
 mod texts;
 mod units;
 mod views;
@@ -35,7 +36,7 @@ use width::Width;
 pub struct ViewSuite;
 
 // The groups, in the order in which they are printed.
-static GROUPS: [&str; 49] = [
+static GROUPS: [&str; 51] = [
     "items16",
     "items32",
     "lossy16",
@@ -85,6 +86,8 @@ static GROUPS: [&str; 49] = [
     "case32",
     "replaced16",
     "replaced32",
+    "splits16",
+    "splits32",
 ];
 
 // The groups with corrected answers, and the crate's faults.
@@ -156,10 +159,11 @@ enum OfUnits {
     Searches,
     Case,
     Replaced,
+    Splits,
     Decoded(Decoder),
 }
 
-static OF_UNITS: [(&str, OfUnits); 21] = [
+static OF_UNITS: [(&str, OfUnits); 22] = [
     ("items", OfUnits::Decoded(Decoder::Strict)),
     ("lossy", OfUnits::Decoded(Decoder::Lossy)),
     ("hints_lossy", OfUnits::Decoded(Decoder::LossyHints)),
@@ -181,6 +185,7 @@ static OF_UNITS: [(&str, OfUnits); 21] = [
     ("searches", OfUnits::Searches),
     ("case", OfUnits::Case),
     ("replaced", OfUnits::Replaced),
+    ("splits", OfUnits::Splits),
 ];
 
 impl Suite for ViewSuite {
@@ -295,6 +300,7 @@ fn with_units<C: Width>(
         OfUnits::Searches => searches::found(alloc, answer, units, question),
         OfUnits::Case => case::asked(memory, answer, units, question),
         OfUnits::Replaced => replaced::asked(memory, answer, units, question),
+        OfUnits::Splits => splits::asked(memory, answer, units, question),
         OfUnits::Decoded(decoder) => decoded(memory, answer, decoder, units, question),
     }
 }
