@@ -34,12 +34,12 @@ static SEPARATORS: [(&str, By); 3] = [("v", By::View), ("o", By::Unit), ("c", By
 // A parsed question: the view, the separator's kind, the separator, and the greatest number of substrings.
 type Parts<'q> = (Kind, By, &'q str, Option<usize>);
 
-// Adds how many substrings there are, and the units of each.
+// Adds how many substrings there are, and the units of each. It makes the iterator twice, since one that holds a unit of
+// any width can't be copied by this macro.
 macro_rules! substrings {
     ($answer:expr, $substrings:expr) => {{
-        let substrings = $substrings;
-        $answer.count(Some(substrings.count()));
-        for substring in substrings {
+        $answer.count(Some($substrings.count()));
+        for substring in $substrings {
             $answer.part();
             $answer.units(substring.as_slice());
         }
