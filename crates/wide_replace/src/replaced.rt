@@ -3,20 +3,20 @@ ghost use Rattle.std.specs.Prelude.{◌≡◌, ◌++◌, ◌-◌, ◌+◌, ◌*�
 ghost use Rattle.wide_search.specs.Cut.{substrings};
 ghost use Rattle.wide_replace.specs.Replaced.{joined_first};
 
-use crate::kinds::{Replaceable, Reserved};
+use crate::kinds::{Replaceable, Reserved, cut};
 use std::alloc::Allocator;
 use wide_error::OutOfMemory;
-use wide_ustr::SplitView;
+use wide_ustr::NeedleView;
 use wide_ustring::extend::{Appendable, Growing};
 
 // Returns how many occurrences of the needle are replaced: all that the view is split at, but at most `most`.
-fn count_cuts<P: Copy, V: SplitView<P>>(view: V, needle: P, most: usize) -> usize
+fn count_cuts<P: Copy, V: NeedleView<P>>(view: V, needle: P, most: usize) -> usize
     ensures { result ≡ min most (length (substrings (V.needle_numbers needle) (V.numbers_seen view)) - 1) }
 {
     let mut rest = view;
     let mut found = 0;
     while found < most {
-        let Some((_, after)) = rest.cut_first(needle) else {
+        let Some((_, after)) = cut(rest, needle) else {
             return found;
         };
         rest = after;
@@ -27,7 +27,7 @@ fn count_cuts<P: Copy, V: SplitView<P>>(view: V, needle: P, most: usize) -> usiz
 
 // Appends a view to a string, with `with` in place of the first `most` occurrences of the needle. It never fails if the
 // spare capacity suffices.
-fn push_replaced<S: Growing, M, P: Copy, V: SplitView<P> + Appendable<S, M>>(
+fn push_replaced<S: Growing, M, P: Copy, V: NeedleView<P> + Appendable<S, M>>(
     string: &mut S,
     view: V,
     needle: P,
@@ -41,7 +41,7 @@ fn push_replaced<S: Growing, M, P: Copy, V: SplitView<P> + Appendable<S, M>>(
     let mut rest = view;
     let mut left = most;
     while left > 0 {
-        let Some((before, after)) = rest.cut_first(needle) else {
+        let Some((before, after)) = cut(rest, needle) else {
             return rest.push_to(string);
         };
         before.push_to(string)?;

@@ -7,7 +7,7 @@ ghost use Rattle.wide_replace.specs.Replaced.{joined_first};
 use crate::replaced::replaced_first;
 use std::alloc::Allocator;
 use wide_error::OutOfMemory;
-use wide_ustr::SplitView;
+use wide_ustr::NeedleView;
 use wide_utferror::FaultUnit;
 use wide_utfstr::UtfStr;
 use wide_utfstring::UtfString;
@@ -27,7 +27,7 @@ use wide_utfstring::UtfString;
 /// let text = text.replace(rt.alloc(), comma, nothing)?;
 /// assert!(rt; text.as_utfstr().eq_str("ab"));
 /// ```
-pub trait UtfStrReplace<C: FaultUnit, P>: SplitView<P> {
+pub trait UtfStrReplace<C: FaultUnit, P>: NeedleView<P> {
     /// Replaces each occurrence of the needle, in a new string. Each occurrence is the first one after the one before,
     /// so occurrences do not overlap. If the needle does not occur, or is empty, the string is a copy.
     ///

@@ -7,7 +7,7 @@ ghost use Rattle.wide_replace.specs.Replaced.{joined_first};
 use crate::replaced::replaced_first;
 use std::alloc::Allocator;
 use wide_error::OutOfMemory;
-use wide_ustr::{SplitView, UStr};
+use wide_ustr::{NeedleView, UStr};
 use wide_ustring::UString;
 use wide_utferror::FaultUnit;
 
@@ -24,7 +24,7 @@ use wide_utferror::FaultUnit;
 /// let text = text.replacen(rt.alloc(), U16Str::from_slice(&[0x61, 0x61]), dash, 9)?;
 /// assert!(rt; text.as_slice() == [0x2d, 0x61].as_slice());
 /// ```
-pub trait UStrReplace<C: FaultUnit, P>: SplitView<P> {
+pub trait UStrReplace<C: FaultUnit, P>: NeedleView<P> {
     /// Replaces each occurrence of the needle, in a new string. Each occurrence is the first one after the one before,
     /// so occurrences do not overlap. If the needle does not occur, or is empty, the string is a copy.
     ///

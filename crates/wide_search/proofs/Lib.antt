@@ -10,3 +10,4 @@ mod Shifts
 mod Sides
 mod Prefixes
 mod Single
+pub mod Members

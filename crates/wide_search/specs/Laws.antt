@@ -4,3 +4,4 @@ pub mod Numbers
 pub mod Ends
 pub mod Characters
 pub mod Cuts
+pub mod Sets

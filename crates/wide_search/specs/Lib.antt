@@ -7,3 +7,4 @@ pub mod Laws
 pub mod Probes
 pub mod Factorizations
 pub mod NextOccurrences
+pub mod Sets

@@ -24,6 +24,7 @@
 //! laws of these definitions.
 #![tactic(auto)]
 
+mod char_set;
 mod chars;
 mod comparisons;
 mod costs;
@@ -35,11 +36,14 @@ mod one;
 mod pairs;
 mod search;
 mod search_back;
+mod sets;
 mod side;
 mod two_way;
 mod units;
 
+pub use char_set::{AsciiWhiteSpace, CharSet, WhiteSpace};
 pub use chars::{find_char, rfind_char};
+pub use sets::{find_in_set, prefix_of_set, suffix_of_set};
 pub use units::{
     ends_with, find, find_unit, rfind, rfind_unit, rsplit_once, split_once, starts_with,
     strip_prefix, strip_suffix,

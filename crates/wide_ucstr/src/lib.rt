@@ -8,6 +8,7 @@ mod compare;
 mod display;
 pub mod laws;
 mod search;
+mod sets;
 mod text;
 mod view;
 

@@ -1,17 +1,10 @@
 -- At most a number of substrings, one by one.
-use Rattle.std.proofs.Common.{◌≡◌, ℕ, zero, suc, ◌-◌, ◌<◌, ◌≤◌, List, [], ◌∷◌, ◌++◌, arith, refl, ap, ◌∙◌, length, length-append, length-take, take, drop}
+use Rattle.std.proofs.Common.{◌≡◌, ℕ, zero, suc, ◌-◌, ◌<◌, ◌≤◌, List, [], ◌∷◌, ◌++◌, arith, refl, sym, ap, ◌∙◌, length, length-append, length-take, take, drop}
 use Rattle.wide_search.specs.Cut.{substrings, substrings-are, substrings-whole}
 use Rattle.wide_search.specs.Substrings.{AreSubstrings, joined_with}
+use Rattle.wide_search.specs.Laws.Cuts.{some-substrings}
 use Rattle.wide_search.specs.Laws.Occurrences.{substrings-joined}
 use Rattle.wide_ustr.specs.SplitN.{all_in_one, splitn}
-
-some_in : (needle whole : List ℕ) (parts : List (List ℕ)) → AreSubstrings needle whole parts → 0 < length parts
-some_in needle whole [] are = absurd are
-some_in needle whole (part ∷ parts) are = omega arith
-
-pub some-substrings : (needle whole : List ℕ) → 0 < length (substrings needle whole)
-some-substrings [] whole = rw (substrings-whole whole) (omega arith)
-some-substrings (p ∷ needle) whole = some_in (p ∷ needle) whole (substrings (p ∷ needle) whole) (substrings-are (p ∷ needle) whole (omega arith))
 
 pub whole-joined : (needle whole : List ℕ) → joined_with needle (substrings needle whole) ≡ whole
 whole-joined [] whole = ap (joined_with []) (substrings-whole whole)
@@ -86,3 +79,7 @@ splitn-whole needle whole count one = splitn-one needle count (substrings needle
 -- Joined with the separator, they are the whole view.
 pub joined-substrings : (needle whole : List ℕ) (count : ℕ) → 0 < count → joined_with needle (splitn count needle (substrings needle whole)) ≡ whole
 joined-substrings needle whole count some = joined-splitn needle count (substrings needle whole) some ∙ whole-joined needle whole
+
+-- What a separator is known to cut, by its units.
+pub cut-by_needle : (cut : List ℕ → List (List ℕ)) (needle : List ℕ) → ((us : List ℕ) → cut us ≡ substrings needle us) → (whole part rest : List ℕ) → cut whole ≡ part ∷ cut rest → substrings needle whole ≡ part ∷ substrings needle rest
+cut-by_needle cut needle law whole part rest is = sym (law whole) ∙ is ∙ ap (λ parts. part ∷ parts) (law rest)

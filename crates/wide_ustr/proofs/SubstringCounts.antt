@@ -7,7 +7,7 @@ use Rattle.wide_forms.specs.UnitBytes.{unit_width}
 use Rattle.wide_search.specs.Cut.{substrings}
 use Rattle.wide_search.specs.Laws.Cuts.{substrings-at_most}
 
-few_units : (form : EncodingForm) (n bytes : ℕ) → bytes ≡ unit_width form * n → bytes < 2 ^ 63 → n + 1 < 2 ^ 64
+pub few_units : (form : EncodingForm) (n bytes : ℕ) → bytes ≡ unit_width form * n → bytes < 2 ^ 63 → n + 1 < 2 ^ 64
 few_units Utf16 n bytes long bound = omega (arith, long, bound)
 few_units Utf32 n bytes long bound = omega (arith, long, bound)
 

@@ -6,4 +6,6 @@ pub mod Lines
 pub mod LineIndices
 pub mod Split
 pub mod SplitN
+pub mod SplitMore
+pub mod Sets
 pub mod Printed

@@ -12,8 +12,11 @@ mod lines;
 mod lossy_with;
 mod offsets;
 mod search;
+mod sets;
 mod split;
+mod split_filled;
 mod split_n;
+mod split_terminator;
 mod text;
 mod view;
 
@@ -25,6 +28,9 @@ pub use iter::{
 pub use line_indices::LineIndices;
 pub use lines::{LineView, Lines};
 pub use lossy_with::{CharsLossyWith, after_faults};
-pub use split::{OneUnit, Split, SplitView};
+pub use sets::AnyOf;
+pub use split::{NeedleView, OneUnit, Split, SplitView};
+pub use split_filled::SplitFilled;
 pub use split_n::SplitN;
+pub use split_terminator::SplitTerminator;
 pub use view::{U16Str, U32Str, UStr, WideChar, WideStr};

@@ -1,9 +1,11 @@
 //! The substrings of a view that is split at a separator.
-ghost use Rattle.std.specs.Prelude.{◌≡◌, ◌<◌, ◌≤◌, ◌+◌, ◌^◌, ◌∷◌, ℕ, List, [], length, None, IfNone, IfSome};
+ghost use Rattle.std.specs.Prelude.{◌≡◌, ◌↔◌, ◌<◌, ◌≤◌, ◌+◌, ◌^◌, ◌∷◌, ℕ, List, [], length, None, IsTrue, IfNone, IfSome};
+ghost use Rattle.std.proofs.Common.{refl};
 ghost use Rattle.std.specs.Iterator.{YieldsFirstBy, at_most, UpTo};
 ghost use Rattle.std.specs.Iterator.SizeHint.{IsWithinCount};
 ghost use Rattle.wide_forms.specs.EncodingForm.{code_units};
 ghost use Rattle.wide_search.specs.Cut.{substrings};
+ghost use Rattle.wide_search.specs.Laws.Cuts.{some-substrings};
 ghost use Rattle.wide_search.specs.Substrings.{AreSubstrings};
 ghost use Rattle.wide_ustr.specs.Split.{substrings_left, unit_substrings_left, one_number, one_substrings_left, char_substrings_left};
 ghost use Rattle.wide_ustr.specs.View.{numbers_seen};
@@ -13,7 +15,7 @@ use std::iter::FusedIterator;
 use wide_from_units::byte_len;
 use wide_unit::Unit;
 
-/// A view that can be split at a separator of some type: units, one unit, or a character.
+/// A view that can be split at a separator of some type: units, one unit, a character, or any character of a set.
 ///
 /// The Rust crate has no such trait. No call allocates.
 ///
@@ -30,14 +32,32 @@ pub trait SplitView<P>: Copy {
     // The numbers of the view's units.
     ghost numbers_seen: { Self → List ℕ };
 
-    // The numbers of the separator's units.
-    ghost needle_numbers: { P → List ℕ };
+    // The numbers of the units of each substring into which units are split at the separator.
+    ghost cut_at: { P → List ℕ → List (List ℕ) };
+
+    // There is at least one substring.
+    ghost some_substrings: { (separator : P) (us : List ℕ) → 0 < length (cut_at separator us) };
 
     /// Splits the view at the first occurrence of the separator, into what is before it and what is after it. Returns
     /// `None` if the separator does not occur, or has no units.
     fn cut_first(self, needle: P) -> Option<(Self, Self)>
-        ensures none { IfNone result (substrings (needle_numbers needle) (numbers_seen self) ≡ numbers_seen self ∷ []) }
-        ensures some { IfSome result (λ r. substrings (needle_numbers needle) (numbers_seen self) ≡ numbers_seen r.0 ∷ substrings (needle_numbers needle) (numbers_seen r.1)) };
+        ensures none { IfNone result (cut_at needle (numbers_seen self) ≡ numbers_seen self ∷ []) }
+        ensures some { IfSome result (λ r. cut_at needle (numbers_seen self) ≡ numbers_seen r.0 ∷ cut_at needle (numbers_seen r.1)) };
+
+    /// Returns whether the view has no units.
+    fn has_no_units(self) -> bool
+        ensures { IsTrue result ↔ (numbers_seen self ≡ []) };
+}
+
+/// A view that can be split at a separator that has the same units wherever it occurs: units, one unit, or a character.
+///
+/// The Rust crate has no such trait.
+pub trait NeedleView<P>: SplitView<P> {
+    // The numbers of the separator's units.
+    ghost needle_numbers: { P → List ℕ };
+
+    // The view is split at these units.
+    ghost cut_at_needle: { (needle : P) (us : List ℕ) → Self.SplitView.cut_at needle us ≡ substrings (needle_numbers needle) us };
 }
 
 /// A separator of one unit. It is a type of its own because a view that could be split both at a unit of any type and at
@@ -79,21 +99,28 @@ impl<P: Copy, V: SplitView<P>> Split<V, P> {
     /// Creates an iterator over the substrings of the view. If the separator has no units, the whole view is the only
     /// substring.
     pub fn new(view: V, needle: P) -> Self
-        ensures { substrings_left V.numbers_seen V.needle_numbers result ≡ substrings (V.needle_numbers needle) (V.numbers_seen view) }
+        ensures { substrings_left V.numbers_seen V.cut_at result ≡ V.cut_at needle (V.numbers_seen view) }
     {
         Split {
             rest: Some(view),
             needle,
         }
     }
+
+    // Returns whether no substring is left.
+    pub(crate) fn is_at_end(&self) -> bool
+        ensures { IsTrue result ↔ (substrings_left V.numbers_seen V.cut_at self.now ≡ []) }
+    {
+        self.rest.is_none()
+    }
 }
 
 impl<P: Copy, V: SplitView<P>> Iterator for Split<V, P> {
     type Item = V;
 
-    ghost next_gives = { YieldsFirstBy V.numbers_seen (substrings_left V.numbers_seen V.needle_numbers) };
+    ghost next_gives = { YieldsFirstBy V.numbers_seen (substrings_left V.numbers_seen V.cut_at) };
 
-    ghost remaining = { λ s. at_most (length (substrings_left V.numbers_seen V.needle_numbers s)) };
+    ghost remaining = { λ s. at_most (length (substrings_left V.numbers_seen V.cut_at s)) };
 
     /// Returns the next substring. It reads the units, vectorized, up to those of the separator that ends the
     /// substring, and may read some after them.
@@ -109,8 +136,8 @@ impl<P: Copy, V: SplitView<P>> Iterator for Split<V, P> {
 
     /// Returns no bounds, since the number of substrings is unknown before the view is read.
     fn size_hint(&self) -> (usize, Option<usize>)
-        ensures lower { IsWithinCount result.0 (at_most (length (substrings_left V.numbers_seen V.needle_numbers self.now))) }
-        ensures upper { IfSome result.1 (UpTo (at_most (length (substrings_left V.numbers_seen V.needle_numbers self.now)))) }
+        ensures lower { IsWithinCount result.0 (at_most (length (substrings_left V.numbers_seen V.cut_at self.now))) }
+        ensures upper { IfSome result.1 (UpTo (at_most (length (substrings_left V.numbers_seen V.cut_at self.now)))) }
         ensures least { result.0 ≡ 0 }
         ensures most { result.1 ≡ None }
     {
@@ -123,7 +150,9 @@ impl<P: Copy, V: SplitView<P>> FusedIterator for Split<V, P> {}
 impl<'a, C: Unit> SplitView<UStr<'a, C>> for UStr<'_, C> {
     ghost numbers_seen = { numbers_seen C.number };
 
-    ghost needle_numbers = { numbers_seen C.number };
+    ghost cut_at = { λ needle. substrings (numbers_seen C.number needle) };
+
+    ghost some_substrings = { λ needle us. some-substrings (numbers_seen C.number needle) us };
 
     fn cut_first(self, needle: UStr<'a, C>) -> Option<(Self, Self)> {
         if needle.is_empty() {
@@ -131,12 +160,24 @@ impl<'a, C: Unit> SplitView<UStr<'a, C>> for UStr<'_, C> {
         }
         self.split_once(needle)
     }
+
+    fn has_no_units(self) -> bool {
+        self.is_empty()
+    }
+}
+
+impl<'a, C: Unit> NeedleView<UStr<'a, C>> for UStr<'_, C> {
+    ghost needle_numbers = { numbers_seen C.number };
+
+    ghost cut_at_needle = { λ needle us. refl };
 }
 
 impl<C: Unit> SplitView<OneUnit<C>> for UStr<'_, C> {
     ghost numbers_seen = { numbers_seen C.number };
 
-    ghost needle_numbers = { one_number C.number };
+    ghost cut_at = { λ needle. substrings (one_number C.number needle) };
+
+    ghost some_substrings = { λ needle us. some-substrings (one_number C.number needle) us };
 
     fn cut_first(self, needle: OneUnit<C>) -> Option<(Self, Self)> {
         let Some(at) = self.find_unit(needle.unit) else {
@@ -146,12 +187,24 @@ impl<C: Unit> SplitView<OneUnit<C>> for UStr<'_, C> {
         let (_, rest) = self.split_at(at + 1);
         Some((substring, rest))
     }
+
+    fn has_no_units(self) -> bool {
+        self.is_empty()
+    }
+}
+
+impl<C: Unit> NeedleView<OneUnit<C>> for UStr<'_, C> {
+    ghost needle_numbers = { one_number C.number };
+
+    ghost cut_at_needle = { λ needle us. refl };
 }
 
 impl<C: Unit> SplitView<char> for UStr<'_, C> {
     ghost numbers_seen = { numbers_seen C.number };
 
-    ghost needle_numbers = { code_units C.form };
+    ghost cut_at = { λ needle. substrings (code_units C.form needle) };
+
+    ghost some_substrings = { λ needle us. some-substrings (code_units C.form needle) us };
 
     fn cut_first(self, c: char) -> Option<(Self, Self)> {
         let Some(at) = self.find_char(c) else {
@@ -161,6 +214,16 @@ impl<C: Unit> SplitView<char> for UStr<'_, C> {
         let (_, rest) = self.split_at(at + C::char_len(c));
         Some((substring, rest))
     }
+
+    fn has_no_units(self) -> bool {
+        self.is_empty()
+    }
+}
+
+impl<C: Unit> NeedleView<char> for UStr<'_, C> {
+    ghost needle_numbers = { code_units C.form };
+
+    ghost cut_at_needle = { λ needle us. refl };
 }
 
 impl<C: Unit> UStr<'_, C> {

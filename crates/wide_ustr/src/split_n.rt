@@ -8,7 +8,7 @@ ghost use Rattle.wide_search.specs.Substrings.{joined_with};
 ghost use Rattle.wide_ustr.specs.SplitN.{splitn, splitn_left, unit_splitn_left, one_splitn_left, char_splitn_left};
 ghost use Rattle.wide_ustr.specs.View.{numbers_seen};
 
-use crate::split::{OneUnit, SplitView};
+use crate::split::{NeedleView, OneUnit};
 use crate::view::UStr;
 use std::iter::FusedIterator;
 use wide_unit::Unit;
@@ -33,7 +33,7 @@ pub struct SplitN<V, P> {
     cuts: usize,
 }
 
-impl<P: Copy, V: SplitView<P>> SplitN<V, P> {
+impl<P: Copy, V: NeedleView<P>> SplitN<V, P> {
     /// Creates an iterator over the first substrings of the view, at most `count`. The last one of that number is all
     /// that is left of the view. If the separator has no units, the whole view is the only substring.
     pub fn new(view: V, needle: P, count: usize) -> Self
@@ -54,7 +54,7 @@ impl<P: Copy, V: SplitView<P>> SplitN<V, P> {
     }
 }
 
-impl<P: Copy, V: SplitView<P>> Iterator for SplitN<V, P> {
+impl<P: Copy, V: NeedleView<P>> Iterator for SplitN<V, P> {
     type Item = V;
 
     ghost next_gives = { YieldsFirstBy V.numbers_seen (splitn_left V.numbers_seen V.needle_numbers) };
@@ -89,7 +89,7 @@ impl<P: Copy, V: SplitView<P>> Iterator for SplitN<V, P> {
     }
 }
 
-impl<P: Copy, V: SplitView<P>> FusedIterator for SplitN<V, P> {}
+impl<P: Copy, V: NeedleView<P>> FusedIterator for SplitN<V, P> {}
 
 impl<C: Unit> UStr<'_, C> {
     /// Returns an iterator over the first substrings between the occurrences of the separator, at most `count`, from

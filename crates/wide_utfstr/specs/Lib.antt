@@ -6,3 +6,4 @@ pub mod Iter
 pub mod Split
 pub mod Pending
 pub mod Escapes
+pub mod Sets

@@ -2,6 +2,7 @@
 use Rattle.std.specs.Prelude.{ℕ, List}
 use Rattle.wide_forms.specs.EncodingForm.{EncodingForm, code_units}
 use Rattle.wide_unit.specs.declared.unit.Unit.{Ghosts}
+use Rattle.wide_search.specs.Cut.{substrings}
 use Rattle.wide_ustr.specs.Split.{substrings_left}
 use Rattle.wide_ustr.specs.SplitN.{splitn_left}
 use Rattle.wide_ustr.specs.declared.split.Split.{Split}
@@ -12,11 +13,11 @@ use Rattle.wide_utfstr.specs.declared.view.UtfStr.{UtfStr}
 module _ {C : Type 0} {g : Ghosts C} where
   -- The substrings of text that is split at a text.
   abbrev pub text_substrings_left : (C → ℕ) → Split (UtfStr C g) (UtfStr C g) → List (List ℕ)
-  text_substrings_left number s = substrings_left (numbers_seen number) (numbers_seen number) s
+  text_substrings_left number s = substrings_left (numbers_seen number) (λ needle. substrings (numbers_seen number needle)) s
 
   -- The substrings of text that is split at a character.
   abbrev pub char_substrings_left : EncodingForm → (C → ℕ) → Split (UtfStr C g) ℕ → List (List ℕ)
-  char_substrings_left form number s = substrings_left (numbers_seen number) (code_units form) s
+  char_substrings_left form number s = substrings_left (numbers_seen number) (λ c. substrings (code_units form c)) s
 
   -- At most a number of the substrings of text that is split at a text.
   abbrev pub text_splitn_left : (C → ℕ) → SplitN (UtfStr C g) (UtfStr C g) → List (List ℕ)

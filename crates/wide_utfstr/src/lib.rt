@@ -11,6 +11,7 @@ mod iter;
 mod lines;
 mod order;
 mod search;
+mod sets;
 mod text;
 mod trim;
 mod view;

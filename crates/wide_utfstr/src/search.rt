@@ -1,9 +1,11 @@
 //! Searches in well-formed text.
 ghost use Rattle.std.specs.Prelude.{◌≡◌, ◌↔◌, ◌+◌, ◌++◌, ◌∷◌, [], ◌≤◌, ◌<◌, ◌^◌, length, map, IsTrue, IsSome, IfNone, IfSome};
+ghost use Rattle.std.proofs.Common.{refl};
 ghost use Rattle.wide_forms.specs.EncodingForm.{code_units};
 ghost use Rattle.wide_search.specs.Occurrences.{OccursIn, IsFirstAt, IsLastAt, OccursNowhere, BeginsWith, EndsWith, IsFirstSplit, IsLastSplit};
 ghost use Rattle.wide_forms.specs.Offsets.{IsCharBoundary};
 ghost use Rattle.wide_search.specs.Cut.{substrings};
+ghost use Rattle.wide_search.specs.Laws.Cuts.{some-substrings};
 ghost use Rattle.wide_search.specs.Substrings.{AreSubstrings, joined_with};
 ghost use Rattle.wide_ustr.specs.SplitN.{splitn};
 ghost use Rattle.wide_utfstr.specs.View.{units_seen, numbers_seen};
@@ -12,7 +14,7 @@ ghost use Rattle.wide_utfstr.specs.Split.{text_substrings_left, char_substrings_
 use crate::view::UtfStr;
 use wide_from_units::byte_len;
 use wide_unit::Unit;
-use wide_ustr::{Split, SplitN, SplitView};
+use wide_ustr::{NeedleView, Split, SplitN, SplitView};
 
 impl<C: Unit> UtfStr<'_, C> {
     /// Returns whether the view begins with the needle. It does if the needle is empty.
@@ -330,7 +332,9 @@ impl<C: Unit> UtfStr<'_, C> {
 impl<'a, C: Unit> SplitView<UtfStr<'a, C>> for UtfStr<'_, C> {
     ghost numbers_seen = { numbers_seen C.number };
 
-    ghost needle_numbers = { numbers_seen C.number };
+    ghost cut_at = { λ needle. substrings (numbers_seen C.number needle) };
+
+    ghost some_substrings = { λ needle us. some-substrings (numbers_seen C.number needle) us };
 
     fn cut_first(self, needle: UtfStr<'a, C>) -> Option<(Self, Self)> {
         if needle.is_empty() {
@@ -338,12 +342,24 @@ impl<'a, C: Unit> SplitView<UtfStr<'a, C>> for UtfStr<'_, C> {
         }
         self.split_once(needle)
     }
+
+    fn has_no_units(self) -> bool {
+        self.is_empty()
+    }
+}
+
+impl<'a, C: Unit> NeedleView<UtfStr<'a, C>> for UtfStr<'_, C> {
+    ghost needle_numbers = { numbers_seen C.number };
+
+    ghost cut_at_needle = { λ needle us. refl };
 }
 
 impl<C: Unit> SplitView<char> for UtfStr<'_, C> {
     ghost numbers_seen = { numbers_seen C.number };
 
-    ghost needle_numbers = { code_units C.form };
+    ghost cut_at = { λ needle. substrings (code_units C.form needle) };
+
+    ghost some_substrings = { λ needle us. some-substrings (code_units C.form needle) us };
 
     fn cut_first(self, c: char) -> Option<(Self, Self)> {
         let Some(at) = self.find_char(c) else {
@@ -353,4 +369,14 @@ impl<C: Unit> SplitView<char> for UtfStr<'_, C> {
         let (_, rest) = self.split_at(at + C::char_len(c));
         Some((substring, rest))
     }
+
+    fn has_no_units(self) -> bool {
+        self.is_empty()
+    }
+}
+
+impl<C: Unit> NeedleView<char> for UtfStr<'_, C> {
+    ghost needle_numbers = { code_units C.form };
+
+    ghost cut_at_needle = { λ needle us. refl };
 }

@@ -47,7 +47,7 @@ no-low_first form cs prefix (Char d ∷ back) l rest chain e f low =
     let t = IsTrailing-from form l low in
     low-begins_nothing form t.0 l d rest (units_of form back) t.1 chain.0 f
 
-chain-back : (form : EncodingForm) (js is : List Item) → Chain form (js ++ is) → Chain form is
+pub chain-back : (form : EncodingForm) (js is : List Item) → Chain form (js ++ is) → Chain form is
 chain-back form [] is chain = chain
 chain-back form (j ∷ js) is chain = chain-back form js is chain.2
 

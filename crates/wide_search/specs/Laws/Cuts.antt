@@ -80,3 +80,12 @@ are-at_most needle whole (p ∷ q ∷ ps) some are =
 pub substrings-at_most : (needle whole : List ℕ) → length (substrings needle whole) ≤ length whole + 1
 substrings-at_most [] whole = omega (arith, ap length (substrings-whole whole))
 substrings-at_most (p ∷ needle) whole = are-at_most (p ∷ needle) whole (substrings (p ∷ needle) whole) (omega arith) (substrings-are (p ∷ needle) whole (omega arith))
+
+-- A list is split into at least one substring.
+some_in : (needle whole : List ℕ) (parts : List (List ℕ)) → AreSubstrings needle whole parts → 0 < length parts
+some_in needle whole [] are = absurd are
+some_in needle whole (part ∷ parts) are = omega arith
+
+pub some-substrings : (needle whole : List ℕ) → 0 < length (substrings needle whole)
+some-substrings [] whole = rw (substrings-whole whole) (omega arith)
+some-substrings (p ∷ needle) whole = some_in (p ∷ needle) whole (substrings (p ∷ needle) whole) (substrings-are (p ∷ needle) whole (omega arith))

@@ -4,7 +4,7 @@ use Rattle.wide_replace.proofs.replaced.count_cuts.Given as goal
 
 abbrev pub invariant-loop-found : goal.invariant-loop-found
 invariant-loop-found g l =
-    (length (substrings (g.V.SplitView.needle_numbers l.needle) (g.V.SplitView.numbers_seen l.fn.view)) ≡ l.found + length (substrings (g.V.SplitView.needle_numbers l.needle) (g.V.SplitView.numbers_seen l.rest)))
+    (length (substrings (g.V.NeedleView.needle_numbers l.needle) (g.V.SplitView.numbers_seen l.fn.view)) ≡ l.found + length (substrings (g.V.NeedleView.needle_numbers l.needle) (g.V.SplitView.numbers_seen l.rest)))
     × (l.found ≤ l.most)
 
 abbrev pub decreases-loop-found : goal.decreases-loop-found

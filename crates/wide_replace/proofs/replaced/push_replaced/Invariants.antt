@@ -5,7 +5,7 @@ use Rattle.wide_replace.proofs.replaced.push_replaced.Given as goal
 
 abbrev pub invariant-loop-left : goal.invariant-loop-left
 invariant-loop-left g l =
-    let needle = g.V.SplitView.needle_numbers l.needle in
+    let needle = g.V.NeedleView.needle_numbers l.needle in
     let with = g.V.SplitView.numbers_seen l.with in record {
       units :
           (g.S.Growing.seen l.fn.string).units ++ joined_first l.most with needle (substrings needle (g.V.SplitView.numbers_seen l.fn.view))
