@@ -1,8 +1,7 @@
--- Loops that test units: whether all are ASCII, and whether those of two slices are alike in lower case.
-use Rattle.std.proofs.Common.{◌≡◌, ℕ, suc, ◌+◌, ◌<◌, List, [], ◌∷◌, ◌++◌, Bool, true, false, ◌&&◌, ◌↔◌, IsTrue, IsAscii, nat_lt, map, get_or, take, drop, length, arith, refl, sym, ap, subst, ◌∙◌}
+-- A loop that tests whether all units are ASCII.
+use Rattle.std.proofs.Common.{ℕ, ◌+◌, ◌<◌, List, Bool, true, false, ◌&&◌, ◌↔◌, IsTrue, IsAscii, nat_lt, get_or, take, drop, length, arith, refl, subst}
 use Rattle.std.proofs.lemmas.Bool.{ltb-true, lt-ltb}
-use Rattle.std.proofs.lemmas.List.{take-take, get_or-take, get_or-map, length-map, take-append-drop}
-use Rattle.std.proofs.Math.Seq.{take-suc}
+use Rattle.std.proofs.lemmas.List.{take-take, get_or-take, take-append-drop}
 use Rattle.std.proofs.lemmas.Str.{IsAscii-take, IsAscii-drop, IsAscii-append}
 use Rattle.std.proofs.lemmas.Str.Ascii.{IsAscii-more}
 
@@ -22,15 +21,3 @@ ascii-rest us k first = (
   λ all. IsAscii-drop us k all,
   λ rest. subst IsAscii (take-append-drop k us) (IsAscii-append (take k us) (drop k us) first rest),
 )
-
--- What a function makes of the number of the unit at an index.
-pub made-at : {X : Type 0} (number : X → ℕ) (f : ℕ → ℕ) (units : List X) (k : ℕ) (u : X) → k < length units → u ≡ get_or units k u → get_or (map f (map number units)) k 0 ≡ f (number u)
-made-at number f units k u within is =
-    get_or-map f (map number units) k 0 0 (omega (arith, within, length-map units number)) ∙ ap f (get_or-map number units k u 0 within ∙ ap number (sym is))
-
--- Two lists whose first `k` numbers are the same.
-pub same-one_more : (ls rs : List ℕ) (k : ℕ) → k < length ls → length ls ≡ length rs → take k ls ≡ take k rs → get_or ls k 0 ≡ get_or rs k 0 → take (k + 1) ls ≡ take (k + 1) rs
-same-one_more ls rs k within long so_far alike =
-    let on : k + 1 ≡ suc k = omega arith in
-    ap (λ n. take n ls) on ∙ take-suc ls k 0 within ∙ ap (λ xs. xs ++ get_or ls k 0 ∷ []) so_far ∙ ap (λ x. take k rs ++ x ∷ []) alike
-    ∙ sym (take-suc rs k 0 (omega (arith, within, long))) ∙ ap (λ n. take n rs) (sym on)

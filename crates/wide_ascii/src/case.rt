@@ -2,7 +2,7 @@
 ghost use Rattle.std.specs.Prelude.{◌≡◌, ◌↔◌, ◌<◌, map, IsTrue, IsAscii};
 ghost use Rattle.std.specs.Char.{to_ascii_lowercase, to_ascii_uppercase};
 
-use wide_unit::Unit;
+use wide_unit::{Unit, common_prefix_ignore_ascii_case};
 
 // How many units are tested before a test for the end: a loop over them without exits is vectorized.
 const BLOCK: usize = 64;
@@ -95,13 +95,5 @@ pub fn make_ascii_uppercase<C: Unit>(units: &mut [C])
 pub fn eq_ignore_ascii_case<C: Unit>(left: &[C], right: &[C]) -> bool
     ensures { IsTrue result ↔ (map to_ascii_lowercase (map C.number left.now) ≡ map to_ascii_lowercase (map C.number right.now)) }
 {
-    if left.len() != right.len() {
-        return false;
-    }
-    for k in 0..left.len() {
-        if lowercase(left[k]).code() != lowercase(right[k]).code() {
-            return false;
-        }
-    }
-    true
+    left.len() == right.len() && common_prefix_ignore_ascii_case(left, right) == left.len()
 }

@@ -11,3 +11,4 @@ mod Sides
 mod Prefixes
 mod Single
 pub mod Members
+mod Lowercase

@@ -1,5 +1,5 @@
 -- What the masks of blocks say of two lists.
-use Rattle.std.proofs.Common.{◌≡◌, ℕ, suc, zero, ◌+◌, ◌-◌, ◌*◌, ◌%◌, ◌^◌, ◌<◌, ◌≤◌, Bool, true, false, not, ◌&&◌, cond, eqb, List, [], ◌∷◌, length, get_or, map, take, drop, replicate, bit_and, refl, sym, ap, ◌∙◌, subst, arith, get_or-take, get_or-drop, length-take, length-drop, inl, inr, pow_mono}
+use Rattle.std.proofs.Common.{◌≡◌, ℕ, suc, zero, ◌+◌, ◌-◌, ◌*◌, ◌%◌, ◌^◌, ◌<◌, ◌≤◌, Bool, true, false, not, ◌&&◌, ◌||◌, cond, eqb, List, [], ◌∷◌, length, get_or, map, take, drop, replicate, bit_and, bit_or, refl, sym, ap, ◌∙◌, subst, arith, get_or-take, get_or-drop, length-take, length-drop, inl, inr, pow_mono}
 use Rattle.std.proofs.lemmas.Bool.{cases_lt}
 use Rattle.std.proofs.lemmas.List.{map-id, take_all, length-map, take-map, drop-map}
 use Rattle.std.proofs.lemmas.List.Sums.{prefix_len-le-length, prefix_len_passes}
@@ -9,7 +9,8 @@ use Rattle.std.proofs.lemmas.Simd.{trailing_mask_l, mask_l-mod, mask_l-lt, lengt
 use Rattle.std.specs.Simd.Lanes.{mask_l, zip2, top}
 use Rattle.std.specs.List.{prefix_len}
 use lib.Count.{count_trailing_zeros, count_leading_zeros, leading_of_zero}
-use Rattle.wide_search.specs.Probes.{are_units}
+use Rattle.wide_search.specs.Probes.{are_either}
+use Rattle.wide_search.specs.declared.either.Either.{Either}
 
 -- ---- a mask and its bits
 
@@ -130,52 +131,79 @@ module _ {X : Type 0} (number : X → ℕ) (t : ℕ → ℕ → Bool) (front bac
 
 -- ---- what the lanes test
 
-module _ (h m : ℕ) (tops : (p q : Bool) → top h (bit_and (cond p m 0) (cond q m 0)) ≡ (p && q)) where
-  tested : (v w n : ℕ) (us vs : List ℕ) → length us ≡ n → length vs ≡ n
-      → map (top h) (zip2 bit_and (zip2 (λ a b. cond (eqb a b) m 0) us (replicate n v)) (zip2 (λ a b. cond (eqb a b) m 0) vs (replicate n w))) ≡ zip2 (are_units v w) us vs
-  tested v w zero [] [] long long2 = refl
-  tested v w zero [] (x ∷ vs) long long2 = absurd (omega (arith, long2))
-  tested v w zero (u ∷ us) vs long long2 = absurd (omega (arith, long))
-  tested v w (suc n) [] vs long long2 = absurd (omega (arith, long))
-  tested v w (suc n) (u ∷ us) [] long long2 = absurd (omega (arith, long2))
-  tested v w (suc n) (u ∷ us) (x ∷ vs) long long2 =
-      ap (λ b. b ∷ map (top h) (zip2 bit_and (zip2 (λ a b. cond (eqb a b) m 0) us (replicate n v)) (zip2 (λ a b. cond (eqb a b) m 0) vs (replicate n w)))) (tops (eqb u v) (eqb x w))
-      ∙ ap (λ bs. are_units v w u x ∷ bs) (tested v w n us vs (omega (arith, long)) (omega (arith, long2)))
+module _ (h m : ℕ) (tops : (p p2 q q2 : Bool) → top h (bit_and (bit_or (cond p m 0) (cond p2 m 0)) (bit_or (cond q m 0) (cond q2 m 0))) ≡ ((p || p2) && (q || q2))) where
+  -- The lanes that are one of two units.
+  abbrev pub either : ℕ → Either ℕ → List ℕ → List ℕ
+  either n values us = zip2 bit_or (zip2 (λ a b. cond (eqb a b) m 0) us (replicate n values.one)) (zip2 (λ a b. cond (eqb a b) m 0) us (replicate n values.other))
 
-  pair_block : (n : ℕ) → n ≤ 64 → (v w : ℕ) (us vs : List ℕ) → length us ≡ n → length vs ≡ n
-      → mask_l (map (top h) (zip2 bit_and (zip2 (λ a b. cond (eqb a b) m 0) (take n us) (replicate n v)) (zip2 (λ a b. cond (eqb a b) m 0) (take n vs) (replicate n w)))) % 2 ^ 64
-      ≡ mask_l (zip2 (are_units v w) (map (λ u. u) us) (map (λ u. u) vs))
-  pair_block n small v w us vs long long2 =
+  tested : (first last : Either ℕ) (n : ℕ) (us vs : List ℕ) → length us ≡ n → length vs ≡ n → map (top h) (zip2 bit_and (either n first us) (either n last vs)) ≡ zip2 (are_either (λ u. u) first last) us vs
+  tested first last zero [] [] long long2 = refl
+  tested first last zero [] (x ∷ vs) long long2 = absurd (omega (arith, long2))
+  tested first last zero (u ∷ us) vs long long2 = absurd (omega (arith, long))
+  tested first last (suc n) [] vs long long2 = absurd (omega (arith, long))
+  tested first last (suc n) (u ∷ us) [] long long2 = absurd (omega (arith, long2))
+  tested first last (suc n) (u ∷ us) (x ∷ vs) long long2 =
+      ap (λ b. b ∷ map (top h) (zip2 bit_and (either n first us) (either n last vs))) (tops (eqb u first.one) (eqb u first.other) (eqb x last.one) (eqb x last.other))
+      ∙ ap (λ bs. are_either (λ u. u) first last u x ∷ bs) (tested first last n us vs (omega (arith, long)) (omega (arith, long2)))
+
+  pair_block : (n : ℕ) → n ≤ 64 → (first last : Either ℕ) (us vs : List ℕ) → length us ≡ n → length vs ≡ n
+      → mask_l (map (top h) (zip2 bit_and (either n first (take n us)) (either n last (take n vs)))) % 2 ^ 64 ≡ mask_l (zip2 (are_either (λ u. u) first last) (map (λ u. u) us) (map (λ u. u) vs))
+  pair_block n small first last us vs long long2 =
       let whole : take n us ≡ us = take_all n us (omega (arith, long)) in
       let whole2 : take n vs ≡ vs = take_all n vs (omega (arith, long2)) in
-      let lanes = zip2 (are_units v w) us vs in
-      ap (λ xs. mask_l (map (top h) (zip2 bit_and (zip2 (λ a b. cond (eqb a b) m 0) xs (replicate n v)) (zip2 (λ a b. cond (eqb a b) m 0) (take n vs) (replicate n w)))) % 2 ^ 64) whole
-      ∙ ap (λ xs. mask_l (map (top h) (zip2 bit_and (zip2 (λ a b. cond (eqb a b) m 0) us (replicate n v)) (zip2 (λ a b. cond (eqb a b) m 0) xs (replicate n w)))) % 2 ^ 64) whole2
-      ∙ ap (λ bs. mask_l bs % 2 ^ 64) (tested v w n us vs long long2)
-      ∙ mask_l-mod lanes 64 (let e = length-zip2 (are_units v w) us vs (long ∙ sym long2) in omega (arith, e, long))
-      ∙ ap (λ xs. mask_l (zip2 (are_units v w) xs vs)) (sym (map-id us))
-      ∙ ap (λ xs. mask_l (zip2 (are_units v w) (map (λ u. u) us) xs)) (sym (map-id vs))
+      let test = are_either (λ u. u) first last in
+      let lanes = zip2 test us vs in
+      ap (λ xs. mask_l (map (top h) (zip2 bit_and (either n first xs) (either n last (take n vs)))) % 2 ^ 64) whole
+      ∙ ap (λ xs. mask_l (map (top h) (zip2 bit_and (either n first us) (either n last xs))) % 2 ^ 64) whole2
+      ∙ ap (λ bs. mask_l bs % 2 ^ 64) (tested first last n us vs long long2)
+      ∙ mask_l-mod lanes 64 (let e = length-zip2 test us vs (long ∙ sym long2) in omega (arith, e, long))
+      ∙ ap (λ xs. mask_l (zip2 test xs vs)) (sym (map-id us))
+      ∙ ap (λ xs. mask_l (zip2 test (map (λ u. u) us) xs)) (sym (map-id vs))
 
-tops16 : (p q : Bool) → top 15 (bit_and (cond p (2 ^ 16 - 1) 0) (cond q (2 ^ 16 - 1) 0)) ≡ (p && q)
-tops16 true true = refl
-tops16 true false = refl
-tops16 false true = refl
-tops16 false false = refl
+pub tops16 : (p p2 q q2 : Bool) → top 15 (bit_and (bit_or (cond p (2 ^ 16 - 1) 0) (cond p2 (2 ^ 16 - 1) 0)) (bit_or (cond q (2 ^ 16 - 1) 0) (cond q2 (2 ^ 16 - 1) 0))) ≡ ((p || p2) && (q || q2))
+tops16 true true true true = refl
+tops16 true true true false = refl
+tops16 true true false true = refl
+tops16 true true false false = refl
+tops16 true false true true = refl
+tops16 true false true false = refl
+tops16 true false false true = refl
+tops16 true false false false = refl
+tops16 false true true true = refl
+tops16 false true true false = refl
+tops16 false true false true = refl
+tops16 false true false false = refl
+tops16 false false true true = refl
+tops16 false false true false = refl
+tops16 false false false true = refl
+tops16 false false false false = refl
 
-tops32 : (p q : Bool) → top 31 (bit_and (cond p (2 ^ 32 - 1) 0) (cond q (2 ^ 32 - 1) 0)) ≡ (p && q)
-tops32 true true = refl
-tops32 true false = refl
-tops32 false true = refl
-tops32 false false = refl
+pub tops32 : (p p2 q q2 : Bool) → top 31 (bit_and (bit_or (cond p (2 ^ 32 - 1) 0) (cond p2 (2 ^ 32 - 1) 0)) (bit_or (cond q (2 ^ 32 - 1) 0) (cond q2 (2 ^ 32 - 1) 0))) ≡ ((p || p2) && (q || q2))
+tops32 true true true true = refl
+tops32 true true true false = refl
+tops32 true true false true = refl
+tops32 true true false false = refl
+tops32 true false true true = refl
+tops32 true false true false = refl
+tops32 true false false true = refl
+tops32 true false false false = refl
+tops32 false true true true = refl
+tops32 false true true false = refl
+tops32 false true false true = refl
+tops32 false true false false = refl
+tops32 false false true true = refl
+tops32 false false true false = refl
+tops32 false false false true = refl
+tops32 false false false false = refl
 
-pub pair_block16 : (v w : ℕ) (us vs : List ℕ) → length us ≡ 16 → length vs ≡ 16
-    → mask_l (map (top 15) (zip2 bit_and (zip2 (λ a b. cond (eqb a b) (2 ^ 16 - 1) 0) (take 16 us) (replicate 16 v)) (zip2 (λ a b. cond (eqb a b) (2 ^ 16 - 1) 0) (take 16 vs) (replicate 16 w)))) % 2 ^ 64
-    ≡ mask_l (zip2 (are_units v w) (map (λ u. u) us) (map (λ u. u) vs))
-pair_block16 v w us vs long long2 =
-    pair_block 15 (2 ^ 16 - 1) tops16 16 (omega arith) v w us vs long long2
+pub pair_block16 : (first last : Either ℕ) (us vs : List ℕ) → length us ≡ 16 → length vs ≡ 16
+    → mask_l (map (top 15) (zip2 bit_and (either 15 (2 ^ 16 - 1) tops16 16 first (take 16 us)) (either 15 (2 ^ 16 - 1) tops16 16 last (take 16 vs)))) % 2 ^ 64
+    ≡ mask_l (zip2 (are_either (λ u. u) first last) (map (λ u. u) us) (map (λ u. u) vs))
+pair_block16 first last us vs long long2 =
+    pair_block 15 (2 ^ 16 - 1) tops16 16 (omega arith) first last us vs long long2
 
-pub pair_block32 : (v w : ℕ) (us vs : List ℕ) → length us ≡ 8 → length vs ≡ 8
-    → mask_l (map (top 31) (zip2 bit_and (zip2 (λ a b. cond (eqb a b) (2 ^ 32 - 1) 0) (take 8 us) (replicate 8 v)) (zip2 (λ a b. cond (eqb a b) (2 ^ 32 - 1) 0) (take 8 vs) (replicate 8 w)))) % 2 ^ 64
-    ≡ mask_l (zip2 (are_units v w) (map (λ u. u) us) (map (λ u. u) vs))
-pair_block32 v w us vs long long2 =
-    pair_block 31 (2 ^ 32 - 1) tops32 8 (omega arith) v w us vs long long2
+pub pair_block32 : (first last : Either ℕ) (us vs : List ℕ) → length us ≡ 8 → length vs ≡ 8
+    → mask_l (map (top 31) (zip2 bit_and (either 31 (2 ^ 32 - 1) tops32 8 first (take 8 us)) (either 31 (2 ^ 32 - 1) tops32 8 last (take 8 vs)))) % 2 ^ 64
+    ≡ mask_l (zip2 (are_either (λ u. u) first last) (map (λ u. u) us) (map (λ u. u) vs))
+pair_block32 first last us vs long long2 =
+    pair_block 31 (2 ^ 32 - 1) tops32 8 (omega arith) first last us vs long long2

@@ -6,7 +6,7 @@ use Rattle.wide_search.specs.Probes.{are_units, BothMatchAt, IsProbe}
 use Rattle.wide_search.specs.declared.needle.Probe.{Probe}
 use Rattle.wide_search.proofs.Ranges.{number-at}
 
-both-true : (m n u v : ℕ) → u ≡ m → v ≡ n → are_units m n u v ≡ true
+pub both-true : (m n u v : ℕ) → u ≡ m → v ≡ n → are_units m n u v ≡ true
 both-true m n u v e e2 = grind (arith, e, e2)
 
 plus-zero : (at : ℕ) → at ≡ at + 0

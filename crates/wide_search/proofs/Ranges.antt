@@ -3,7 +3,8 @@ use Rattle.std.proofs.Common.{◌≡◌, ℕ, zero, suc, ◌+◌, ◌-◌, ◌<�
 use Rattle.std.proofs.lemmas.List.{map-id, length-map, take-map, drop-map}
 use Rattle.std.proofs.lemmas.List.Sums.{prefix_len_passes, prefix_len-le-length}
 use Rattle.wide_forms.specs.Searches.{first_offset, is_unit}
-use Rattle.wide_search.specs.Probes.{are_units, BothMatchAt}
+use Rattle.wide_search.specs.Probes.{are_units, are_either, BothMatchAt, EitherMatchesAt}
+use Rattle.wide_search.specs.declared.either.Either.{Either}
 use Rattle.std.proofs.lemmas.Bool.{cases_lt}
 
 module _ (P : ℕ → Type 0) where
@@ -51,20 +52,22 @@ number-at number [] k d l = absurd (omega (arith, l))
 number-at number (x ∷ xs) zero d l = refl
 number-at number (x ∷ xs) (suc k) d l = number-at number xs k d (omega (arith, l))
 
--- If a test says that the two units do not match at an index, they do not.
-pub apart : {X : Type 0} (number : X → ℕ) (front back : List X) (first last k : ℕ) (u v : X) (equal : Bool) → k < length front → k < length back → u ≡ get_or front k u → v ≡ get_or back k v
-    → equal ≡ are_units first last (number u) (number v) → equal ≡ false → ¬ (BothMatchAt first last (map number front) (map number back) k)
+-- If a test says that none of the units match at an index, none do.
+pub apart : {X : Type 0} (number : X → ℕ) (front back : List X) (first last : Either X) (k : ℕ) (u v : X) (equal : Bool) → k < length front → k < length back → u ≡ get_or front k u → v ≡ get_or back k v
+    → equal ≡ are_either number first last (number u) (number v) → equal ≡ false → ¬ (EitherMatchesAt number first last (map number front) (map number back) k)
 apart number front back first last k u v equal l l2 at at2 tested none holds =
+    let test = are_either number first last in
     let e : get_or (map number front) k 0 ≡ number u = number-at number front k u l ∙ ap number (sym at) in
     let e2 : get_or (map number back) k 0 ≡ number v = number-at number back k v l2 ∙ ap number (sym at2) in
-    let h : are_units first last (number u) (number v) ≡ true = subst (λ n. are_units first last (number u) n ≡ true) e2 (subst (λ n. are_units first last n (get_or (map number back) k 0) ≡ true) e holds) in
+    let h : test (number u) (number v) ≡ true = subst (λ n. test (number u) n ≡ true) e2 (subst (λ n. test n (get_or (map number back) k 0) ≡ true) e holds) in
     cc (tested, none, h)
 
 -- What matches in units of one width matches in these units as units of either width.
-pub stand-as : (first last v w : ℕ) (xs ys us vs : List ℕ) (k : ℕ) → v ≡ first → w ≡ last → us ≡ xs → vs ≡ ys → BothMatchAt first last xs ys k → BothMatchAt v w (map (λ u. u) us) (map (λ u. u) vs) k
+pub stand-as : (first last v w : Either ℕ) (xs ys us vs : List ℕ) (k : ℕ) → v ≡ first → w ≡ last → us ≡ xs → vs ≡ ys → EitherMatchesAt (λ n. n) first last xs ys k → EitherMatchesAt (λ n. n) v w (map (λ u. u) us) (map (λ u. u) vs) k
 stand-as first last v w xs ys us vs k e e2 e3 e4 holds =
-    let here : BothMatchAt v w us vs k = subst (λ n. BothMatchAt v n us vs k) (sym e2) (subst (λ n. BothMatchAt n last us vs k) (sym e) (subst (λ zs. BothMatchAt first last us zs k) (sym e4) (subst (λ zs. BothMatchAt first last zs ys k) (sym e3) holds))) in
-    subst (λ zs. BothMatchAt v w (map (λ u. u) us) zs k) (sym (map-id vs)) (subst (λ zs. BothMatchAt v w zs vs k) (sym (map-id us)) here)
+    let matches : Either ℕ → Either ℕ → List ℕ → List ℕ → Type 0 = λ a b fs bs. EitherMatchesAt (λ n. n) a b fs bs k in
+    let here : matches v w us vs = subst (λ n. matches v n us vs) (sym e2) (subst (λ n. matches n last us vs) (sym e) (subst (λ zs. matches first last us zs) (sym e4) (subst (λ zs. matches first last zs ys) (sym e3) holds))) in
+    subst (λ zs. matches v w (map (λ u. u) us) zs) (sym (map-id vs)) (subst (λ zs. matches v w zs vs) (sym (map-id us)) here)
 
 is_false : (b : Bool) → not b ≡ true → b ≡ false
 is_false true none = cc

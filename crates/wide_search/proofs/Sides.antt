@@ -3,12 +3,13 @@ use Rattle.std.proofs.Common.{◌≡◌, ℕ, ◌+◌, ◌-◌, ◌<◌, ◌≤�
 use Rattle.std.proofs.Common.{get_or-drop, get_or-take}
 use Rattle.std.proofs.lemmas.Bool.{cases_lt}
 use Rattle.std.proofs.lemmas.List.{length-map, ext_get_or}
+use Rattle.std.proofs.lemmas.Simd.{map-map}
 use Rattle.wide_search.specs.Laws.Numbers.{occurs-numbers, occurs-units}
-use Rattle.wide_search.specs.NextOccurrences.{OccursFrom}
+use Rattle.wide_search.specs.NextOccurrences.{number_read, OccursFrom}
 use Rattle.wide_search.specs.Occurrences.{OccursAt}
 
 -- The numbers at the indices of an occurrence are those of the needle.
-reads-of : (needle us : List ℕ) (at : ℕ) → OccursAt needle us at → (j : ℕ) → j < length needle → get_or us (at + j) 0 ≡ get_or needle j 0
+pub reads-of : (needle us : List ℕ) (at : ℕ) → OccursAt needle us at → (j : ℕ) → j < length needle → get_or us (at + j) 0 ≡ get_or needle j 0
 reads-of needle us at occurs j l = sym (get_or-drop at us j 0) ∙ sym (get_or-take (length needle) (drop at us) j 0 l) ∙ ap (λ xs. get_or xs j 0) occurs.same
 
 occurs-of : (needle us : List ℕ) (at : ℕ) → at + length needle ≤ length us → ((j : ℕ) → j < length needle → get_or us (at + j) 0 ≡ get_or needle j 0) → OccursAt needle us at
@@ -20,6 +21,34 @@ occurs-of needle us at within reads =
           let l2 : j < length needle = omega (arith, l, long) in
           get_or-take (length needle) (drop at us) j 0 l2 ∙ get_or-drop at us j 0 ∙ reads j l2);
     }
+
+-- An occurrence by the numbers that are read of the units, and one in the list of these numbers.
+module _ {X : Type 0} (read : ℕ → ℕ) (number : X → ℕ) (needle us : List X) where
+  read-all : (xs : List X) → map (number_read read number) xs ≡ map read (map number xs)
+  read-all xs = sym (map-map read number xs)
+
+  length-read : (xs : List X) → length (map read (map number xs)) ≡ length xs
+  length-read xs = length-map (map number xs) read ∙ length-map xs number
+
+  -- An occurrence counted from the beginning is one in the list.
+  pub occurs-as_read : (at : ℕ) → OccursFrom false (number_read read number) needle us at → OccursAt (map read (map number needle)) (map read (map number us)) at
+  occurs-as_read at occurs = occurs-of (map read (map number needle)) (map read (map number us)) at (omega (arith, occurs.fits, length-read needle, length-read us)) (λ j l.
+      sym (ap (λ xs. get_or xs (at + j) 0) (read-all us)) ∙ occurs.reads j (omega (arith, l, length-read needle)) ∙ ap (λ xs. get_or xs j 0) (read-all needle))
+
+  -- An occurrence in the list is one counted from the beginning.
+  as_read-occurs : (at : ℕ) → OccursAt (map read (map number needle)) (map read (map number us)) at → OccursFrom false (number_read read number) needle us at
+  as_read-occurs at occurs = record {
+    fits = omega (arith, occurs.within, length-read needle, length-read us);
+    reads = λ j l. ap (λ xs. get_or xs (at + j) 0) (read-all us) ∙ reads-of (map read (map number needle)) (map read (map number us)) at occurs j (omega (arith, l, length-read needle)) ∙ sym (ap (λ xs. get_or xs j 0) (read-all needle));
+  }
+
+  -- If there is no occurrence before an offset, there is none before where a search from that offset on stopped.
+  pub none-to_stop_as_read : (from at : ℕ) → ((k : ℕ) → k < from → ¬ (OccursAt (map read (map number needle)) (map read (map number us)) k)) → ((k : ℕ) → from ≤ k → k < at → ¬ (OccursFrom false (number_read read number) needle us k))
+      → (k : ℕ) → k < at → ¬ (OccursAt (map read (map number needle)) (map read (map number us)) k)
+  none-to_stop_as_read from at none passed k l occurs = elim (cases_lt k from) [
+    | inl earlier ↦ none k earlier occurs
+    | inr later ↦ passed k later l (as_read-occurs k occurs)
+  ]
 
 module _ {X : Type 0} (number : X → ℕ) (same : (x y : X) → number x ≡ number y → x ≡ y) (needle us : List X) where
   reads-units : (at : ℕ) → OccursAt needle us at → (j : ℕ) → j < length needle → get_or (map number us) (at + j) 0 ≡ get_or (map number needle) j 0

@@ -1,4 +1,5 @@
 pub mod Occurrences
+pub mod Lowercased
 pub mod Substrings
 pub mod Cut
 pub mod Sought

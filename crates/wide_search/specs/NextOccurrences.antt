@@ -3,6 +3,10 @@ use Rattle.std.specs.Prelude.{◌<◌, ◌≤◌, ℕ, Bool, List, IsTrue, lengt
 use Rattle.std.specs.Str.TwoWay.{item_from, OccursIn}
 use Rattle.wide_search.specs.declared.two_way.Stop.{Stop}
 
+-- The number of a unit as a search reads it.
+abbrev pub number_read : {C : Type 0} → (ℕ → ℕ) → (C → ℕ) → C → ℕ
+number_read read number unit = read (number unit)
+
 module _ {C : Type 0} (back : Bool) (number : C → ℕ) where
   -- The number of the unit at an index, counted from the end of the list if `back` is true.
   abbrev pub number_from : List C → ℕ → ℕ

@@ -6,6 +6,7 @@ ghost use Rattle.std.specs.Prelude.{◌≡◌, ◌↔◌, ◌<◌, ◌+◌, ◌�
 ghost use Rattle.std.specs.Str.Critical.{IsRepeat, IsSuffixAt};
 ghost use Rattle.std.specs.Str.TwoWay.{item_from};
 ghost use Rattle.wide_search.specs.Factorizations.{IsFactorization, Precedes};
+ghost use Rattle.wide_search.specs.NextOccurrences.{number_read};
 
 use crate::side::Side;
 use wide_unit::Unit;
@@ -47,7 +48,7 @@ fn precedes(number: u32, other: u32, reversed: bool) -> bool
 // from `other` on, which is a whole number of periods later.
 fn greatest_suffix<C: Unit, S: Side>(needle: &[C], reversed: bool) -> Suffix
     requires { 0 < length needle.now }
-    ensures { IsSuffixAt (Precedes reversed) (item_from S.BACK (length needle.now) (map C.number needle.now)) (length needle.now) result.start result.period }
+    ensures { IsSuffixAt (Precedes reversed) (item_from S.BACK (length needle.now) (map (number_read S.READ C.number) needle.now)) (length needle.now) result.start result.period }
 {
     let mut start = 0;
     let mut other = 1;
@@ -79,7 +80,7 @@ fn greatest_suffix<C: Unit, S: Side>(needle: &[C], reversed: bool) -> Suffix
 // period after it.
 fn repeats_at<C: Unit, S: Side>(needle: &[C], cut: usize, period: usize) -> bool
     requires { cut + period ≤ length needle.now }
-    ensures { IsTrue result ↔ IsRepeat (item_from S.BACK (length needle.now) (map C.number needle.now)) (length needle.now) cut period }
+    ensures { IsTrue result ↔ IsRepeat (item_from S.BACK (length needle.now) (map (number_read S.READ C.number) needle.now)) (length needle.now) cut period }
 {
     for index in cut.saturating_sub(period)..cut {
         if S::unit(needle, index) != S::unit(needle, index + period) {
@@ -93,7 +94,7 @@ fn repeats_at<C: Unit, S: Side>(needle: &[C], cut: usize, period: usize) -> bool
 // units and in the reversed order.
 pub(crate) fn factorize<C: Unit, S: Side>(needle: &[C]) -> Factorization
     requires { 0 < length needle.now }
-    ensures { IsFactorization (item_from S.BACK (length needle.now) (map C.number needle.now)) (length needle.now) result }
+    ensures { IsFactorization (item_from S.BACK (length needle.now) (map (number_read S.READ C.number) needle.now)) (length needle.now) result }
 {
     let ascending = greatest_suffix::<C, S>(needle, false);
     let descending = greatest_suffix::<C, S>(needle, true);

@@ -18,6 +18,10 @@
 //!    is linear in the worst case (M. Crochemore and D. Perrin, "Two-way string-matching"). Where the text no longer
 //!    repeats itself, the plain loop follows from the front, and the search by two units from the back.
 //!
+//! A search without regard to the case of ASCII letters (`ignoring_case.rt`) begins with the second method: in SIMD
+//! lanes, each unit is compared with a letter in lower case and in upper case (`either.rt`). The third method, which
+//! reads each unit in lower case, follows it as it does from the back.
+//!
 //! `limits.rt` has the numbers by which one method follows another. They affect only how long a search takes.
 //!
 //! `specs/` defines occurrences and the substrings between them. The contracts of the functions in [`laws`] are the
@@ -28,7 +32,9 @@ mod char_set;
 mod chars;
 mod comparisons;
 mod costs;
+mod either;
 mod factorization;
+mod ignoring_case;
 pub mod laws;
 mod limits;
 mod needle;
@@ -43,6 +49,9 @@ mod units;
 
 pub use char_set::{AsciiWhiteSpace, CharSet, WhiteSpace};
 pub use chars::{find_char, rfind_char};
+pub use ignoring_case::{
+    ends_with_ignore_ascii_case, find_ignore_ascii_case, starts_with_ignore_ascii_case,
+};
 pub use sets::{find_in_set, prefix_of_set, suffix_of_set};
 pub use units::{
     ends_with, find, find_unit, rfind, rfind_unit, rsplit_once, split_once, starts_with,

@@ -4,13 +4,18 @@
 //! an index. Few indices pass even if one of the units is frequent. The blocks of both lists are compared in SIMD
 //! lanes: sixteen 16-bit units, or eight 32-bit units, in one step (W. Mula, "SIMD-friendly algorithms for substring
 //! searching").
+//!
+//! Each unit is compared with two numbers. Without regard to the case of ASCII letters they are those of a letter in
+//! either case. In an exact search both are the same variable, and the compiler leaves one comparison.
 
-ghost use Rattle.std.specs.Prelude.{◌≡◌, ◌+◌, ◌<◌, ◌≤◌, ℕ, false, length, map, slice_index};
+ghost use Rattle.std.specs.Prelude.{◌≡◌, ◌+◌, ◌<◌, ◌≤◌, ℕ, length, map};
 ghost use Rattle.std.proofs.Common.{rules};
+ghost use Rattle.std.specs.Char.{to_ascii_lowercase};
 ghost use Rattle.std.specs.Simd.Lanes.{mask_l, zip2};
-ghost use Rattle.wide_search.specs.Probes.{are_units, BothMatchAt};
-ghost use Rattle.wide_forms.specs.Searches.{is_unit};
+ghost use Rattle.wide_search.specs.Lowercased.{lowercased};
+ghost use Rattle.wide_search.specs.Probes.{are_either, BothMatchAt, EitherMatchesAt};
 
+use crate::either::{Either, exactly, in_either_case, narrow};
 use std::simd::prelude::*;
 use wide_unit::{AnyUnits, Unit};
 
@@ -26,15 +31,15 @@ trait Lane: Copy {
     // How many lanes a block has.
     const COUNT: usize;
 
-    // Returns whether `self` is `first` and `other` is `last`.
-    fn are_equal(self, other: Self, first: Self, last: Self) -> bool
-        ensures { result ≡ are_units (number first) (number last) (number self) (number other) };
+    // Returns whether `self` is one of `first`, and `other` one of `last`.
+    fn are_either(self, other: Self, first: Either<Self>, last: Either<Self>) -> bool
+        ensures { result ≡ are_either number first last (number self) (number other) };
 
-    // Returns a bit mask: bit k is set if unit k of `front` is `first`, and unit k of `back` is `last`.
-    fn bits(front: &[Self], back: &[Self], first: Self, last: Self) -> u64
+    // Returns a bit mask: bit k is set if unit k of `front` is one of `first`, and unit k of `back` one of `last`.
+    fn bits(front: &[Self], back: &[Self], first: Either<Self>, last: Either<Self>) -> u64
         requires front { length front.now ≡ COUNT }
         requires back { length back.now ≡ COUNT }
-        ensures { result ≡ mask_l (zip2 (are_units (number first) (number last)) (map number front.now) (map number back.now)) };
+        ensures { result ≡ mask_l (zip2 (are_either number first last) (map number front.now) (map number back.now)) };
 
     ghost some_lanes: { 0 < COUNT };
 
@@ -53,14 +58,23 @@ impl Lane for u16 {
     const COUNT: usize = 16;
 
     #[inline(always)]
-    fn are_equal(self, other: u16, first: u16, last: u16) -> bool {
-        self == first && other == last
+    fn are_either(self, other: u16, first: Either<u16>, last: Either<u16>) -> bool
+        ensures { result ≡ are_either (λ u. u) first last self other }
+    {
+        (self == first.one || self == first.other) && (other == last.one || other == last.other)
     }
 
     #[inline(always)]
-    fn bits(front: &[u16], back: &[u16], first: u16, last: u16) -> u64 {
-        let firsts = u16x16::from_slice(front).simd_eq(u16x16::splat(first));
-        let lasts = u16x16::from_slice(back).simd_eq(u16x16::splat(last));
+    fn bits(front: &[u16], back: &[u16], first: Either<u16>, last: Either<u16>) -> u64
+        requires front { length front.now ≡ 16 }
+        requires back { length back.now ≡ 16 }
+        ensures { result ≡ mask_l (zip2 (are_either (λ u. u) first last) (map (λ u. u) front.now) (map (λ u. u) back.now)) }
+    {
+        let front = u16x16::from_slice(front);
+        let back = u16x16::from_slice(back);
+        let firsts = front.simd_eq(u16x16::splat(first.one))
+            | front.simd_eq(u16x16::splat(first.other));
+        let lasts = back.simd_eq(u16x16::splat(last.one)) | back.simd_eq(u16x16::splat(last.other));
         (firsts & lasts).to_bitmask()
     }
 }
@@ -77,14 +91,23 @@ impl Lane for u32 {
     const COUNT: usize = 8;
 
     #[inline(always)]
-    fn are_equal(self, other: u32, first: u32, last: u32) -> bool {
-        self == first && other == last
+    fn are_either(self, other: u32, first: Either<u32>, last: Either<u32>) -> bool
+        ensures { result ≡ are_either (λ u. u) first last self other }
+    {
+        (self == first.one || self == first.other) && (other == last.one || other == last.other)
     }
 
     #[inline(always)]
-    fn bits(front: &[u32], back: &[u32], first: u32, last: u32) -> u64 {
-        let firsts = u32x8::from_slice(front).simd_eq(u32x8::splat(first));
-        let lasts = u32x8::from_slice(back).simd_eq(u32x8::splat(last));
+    fn bits(front: &[u32], back: &[u32], first: Either<u32>, last: Either<u32>) -> u64
+        requires front { length front.now ≡ 8 }
+        requires back { length back.now ≡ 8 }
+        ensures { result ≡ mask_l (zip2 (are_either (λ u. u) first last) (map (λ u. u) front.now) (map (λ u. u) back.now)) }
+    {
+        let front = u32x8::from_slice(front);
+        let back = u32x8::from_slice(back);
+        let firsts = front.simd_eq(u32x8::splat(first.one))
+            | front.simd_eq(u32x8::splat(first.other));
+        let lasts = back.simd_eq(u32x8::splat(last.one)) | back.simd_eq(u32x8::splat(last.other));
         (firsts & lasts).to_bitmask()
     }
 }
@@ -92,11 +115,17 @@ impl Lane for u32 {
 // Returns how many indices of the block at `at` come before the first at which both units match: the whole block if
 // there is none.
 #[inline(always)]
-fn before_pair<L: Lane>(front: &[L], back: &[L], at: usize, first: L, last: L) -> usize
+fn before_pair<L: Lane>(
+    front: &[L],
+    back: &[L],
+    at: usize,
+    first: Either<L>,
+    last: Either<L>,
+) -> usize
     requires front { at + L.COUNT ≤ length front.now }
     requires back { at + L.COUNT ≤ length back.now }
     ensures within { result ≤ L.COUNT }
-    ensures before { (k : ℕ) → k < result → ¬ (BothMatchAt (L.number first) (L.number last) (map L.number front.now) (map L.number back.now) (at + k)) }
+    ensures before { (k : ℕ) → k < result → ¬ (EitherMatchesAt L.number first last (map L.number front.now) (map L.number back.now) (at + k)) }
 {
     let end = at + L::COUNT;
     let bits = L::bits(&front[at..end], &back[at..end], first, last);
@@ -109,11 +138,17 @@ fn before_pair<L: Lane>(front: &[L], back: &[L], at: usize, first: L, last: L) -
 
 // Returns how many indices of the block at `at` there are up to and including the last at which both units match, or 0.
 #[inline(always)]
-fn through_pair<L: Lane>(front: &[L], back: &[L], at: usize, first: L, last: L) -> usize
+fn through_pair<L: Lane>(
+    front: &[L],
+    back: &[L],
+    at: usize,
+    first: Either<L>,
+    last: Either<L>,
+) -> usize
     requires front { at + L.COUNT ≤ length front.now }
     requires back { at + L.COUNT ≤ length back.now }
     ensures within { result ≤ L.COUNT }
-    ensures beyond { (k : ℕ) → result ≤ k → k < L.COUNT → ¬ (BothMatchAt (L.number first) (L.number last) (map L.number front.now) (map L.number back.now) (at + k)) }
+    ensures beyond { (k : ℕ) → result ≤ k → k < L.COUNT → ¬ (EitherMatchesAt L.number first last (map L.number front.now) (map L.number back.now) (at + k)) }
 {
     let end = at + L::COUNT;
     let bits = L::bits(&front[at..end], &back[at..end], first, last);
@@ -123,10 +158,10 @@ fn through_pair<L: Lane>(front: &[L], back: &[L], at: usize, first: L, last: L) 
 // Returns the first index at which both units match, or the length. The last block overlaps the one before it, so that
 // no index is left over if there is a whole block.
 #[inline(always)]
-fn first_in<L: Lane>(front: &[L], back: &[L], first: L, last: L) -> usize
+fn first_in<L: Lane>(front: &[L], back: &[L], first: Either<L>, last: Either<L>) -> usize
     requires { length front.now ≡ length back.now }
     ensures within { result ≤ length back.now }
-    ensures before { (k : ℕ) → k < result → ¬ (BothMatchAt (L.number first) (L.number last) (map L.number front.now) (map L.number back.now) k) }
+    ensures before { (k : ℕ) → k < result → ¬ (EitherMatchesAt L.number first last (map L.number front.now) (map L.number back.now) k) }
 {
     let len = back.len();
     let mut at = 0;
@@ -141,7 +176,7 @@ fn first_in<L: Lane>(front: &[L], back: &[L], first: L, last: L) -> usize
         let start = len - L::COUNT;
         return start + before_pair(front, back, start, first, last);
     }
-    while at < len && !front[at].are_equal(back[at], first, last) {
+    while at < len && !front[at].are_either(back[at], first, last) {
         at += 1;
     }
     at
@@ -150,10 +185,10 @@ fn first_in<L: Lane>(front: &[L], back: &[L], first: L, last: L) -> usize
 // Returns the index after the last one at which both units match, or 0. It reads from the end. The block that it reads
 // last, at the beginning of the lists, may overlap the block after it, so that no index is left over.
 #[inline(always)]
-fn last_in<L: Lane>(front: &[L], back: &[L], first: L, last: L) -> usize
+fn last_in<L: Lane>(front: &[L], back: &[L], first: Either<L>, last: Either<L>) -> usize
     requires { length front.now ≡ length back.now }
     ensures within { result ≤ length back.now }
-    ensures beyond { (k : ℕ) → result ≤ k → k < length back.now → ¬ (BothMatchAt (L.number first) (L.number last) (map L.number front.now) (map L.number back.now) k) }
+    ensures beyond { (k : ℕ) → result ≤ k → k < length back.now → ¬ (EitherMatchesAt L.number first last (map L.number front.now) (map L.number back.now) k) }
 {
     let len = back.len();
     let mut end = len;
@@ -168,53 +203,77 @@ fn last_in<L: Lane>(front: &[L], back: &[L], first: L, last: L) -> usize
     if len >= L::COUNT {
         return through_pair(front, back, 0, first, last);
     }
-    while end > 0 && !front[end - 1].are_equal(back[end - 1], first, last) {
+    while end > 0 && !front[end - 1].are_either(back[end - 1], first, last) {
         end -= 1;
     }
     end
 }
 
-// Returns the first index at which `first` is in `front` and `last` in `back`, or the length. It reads both lists up to
-// the end of the block of that index. If the lists or the units had different widths, which does not happen, it would
-// return 0, which excludes no index.
+// Returns the first index at which one of `first` is in `front` and one of `last` in `back`, or the length. It reads
+// both lists up to the end of the block of that index. If the lists or the numbers had different widths, which does not
+// happen, it would return 0, which excludes no index.
+#[inline(always)]
+fn first_either<C: Unit>(front: &[C], back: &[C], first: Either<u32>, last: Either<u32>) -> usize
+    requires { length front.now ≡ length back.now }
+    ensures within { result ≤ length back.now }
+    ensures before { (k : ℕ) → k < result → ¬ (EitherMatchesAt (λ n. n) first last (map C.number front.now) (map C.number back.now) k) }
+{
+    match (C::as_any(front), C::as_any(back)) {
+        (AnyUnits::U16(front), AnyUnits::U16(back)) => match (narrow(first), narrow(last)) {
+            (Some(first), Some(last)) => first_in(front, back, first, last),
+            _ => 0,
+        },
+        (AnyUnits::U32(front), AnyUnits::U32(back)) => first_in(front, back, first, last),
+        _ => 0,
+    }
+}
+
+// Returns the index after the last one at which one of `first` is in `front` and one of `last` in `back`, or 0. If the
+// lists or the numbers had different widths, which does not happen, it would return the length, which excludes no
+// index.
+#[inline(always)]
+fn last_either<C: Unit>(front: &[C], back: &[C], first: Either<u32>, last: Either<u32>) -> usize
+    requires { length front.now ≡ length back.now }
+    ensures within { result ≤ length back.now }
+    ensures beyond { (k : ℕ) → result ≤ k → k < length back.now → ¬ (EitherMatchesAt (λ n. n) first last (map C.number front.now) (map C.number back.now) k) }
+{
+    let len = back.len();
+    match (C::as_any(front), C::as_any(back)) {
+        (AnyUnits::U16(front), AnyUnits::U16(back)) => match (narrow(first), narrow(last)) {
+            (Some(first), Some(last)) => last_in(front, back, first, last),
+            _ => len,
+        },
+        (AnyUnits::U32(front), AnyUnits::U32(back)) => last_in(front, back, first, last),
+        _ => len,
+    }
+}
+
+// Returns the first index at which `first` is in `front` and `last` in `back`, or the length.
 #[inline(always)]
 pub(crate) fn first_pair<C: Unit>(front: &[C], back: &[C], first: C, last: C) -> usize
     requires { length front.now ≡ length back.now }
     ensures within { result ≤ length back.now }
     ensures before { (k : ℕ) → k < result → ¬ (BothMatchAt (C.number first) (C.number last) (map C.number front.now) (map C.number back.now) k) }
 {
-    match (C::as_any(front), C::as_any(back)) {
-        (AnyUnits::U16(front), AnyUnits::U16(back)) => {
-            match (u16::try_from(first.code()), u16::try_from(last.code())) {
-                (Ok(first), Ok(last)) => first_in(front, back, first, last),
-                _ => 0,
-            }
-        }
-        (AnyUnits::U32(front), AnyUnits::U32(back)) => {
-            first_in(front, back, first.code(), last.code())
-        }
-        _ => 0,
-    }
+    first_either(front, back, exactly(first), exactly(last))
 }
 
-// Returns the index after the last one at which `first` is in `front` and `last` in `back`, or 0. If the lists or the
-// units had different widths, which does not happen, it would return the length, which excludes no index.
+// Returns the index after the last one at which `first` is in `front` and `last` in `back`, or 0.
 pub(crate) fn last_pair<C: Unit>(front: &[C], back: &[C], first: C, last: C) -> usize
     requires { length front.now ≡ length back.now }
     ensures within { result ≤ length back.now }
     ensures beyond { (k : ℕ) → result ≤ k → k < length back.now → ¬ (BothMatchAt (C.number first) (C.number last) (map C.number front.now) (map C.number back.now) k) }
 {
-    let len = back.len();
-    match (C::as_any(front), C::as_any(back)) {
-        (AnyUnits::U16(front), AnyUnits::U16(back)) => {
-            match (u16::try_from(first.code()), u16::try_from(last.code())) {
-                (Ok(first), Ok(last)) => last_in(front, back, first, last),
-                _ => len,
-            }
-        }
-        (AnyUnits::U32(front), AnyUnits::U32(back)) => {
-            last_in(front, back, first.code(), last.code())
-        }
-        _ => len,
-    }
+    last_either(front, back, exactly(first), exactly(last))
+}
+
+// Returns the first index at which `first` is in `front` and `last` in `back`, or the length, without regard to the
+// case of ASCII letters.
+#[inline(always)]
+pub(crate) fn first_pair_in_lower_case<C: Unit>(front: &[C], back: &[C], first: C, last: C) -> usize
+    requires { length front.now ≡ length back.now }
+    ensures within { result ≤ length back.now }
+    ensures before { (k : ℕ) → k < result → ¬ (BothMatchAt (to_ascii_lowercase (C.number first)) (to_ascii_lowercase (C.number last)) (lowercased (map C.number front.now)) (lowercased (map C.number back.now)) k) }
+{
+    first_either(front, back, in_either_case(first), in_either_case(last))
 }

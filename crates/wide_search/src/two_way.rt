@@ -1,14 +1,15 @@
 //! The two-way search (M. Crochemore and D. Perrin, "Two-way string-matching"), from either side: linear in the lengths
 //! of the units and the needle, in constant memory. It reads each unit by itself, so it is used only where the needle
-//! and the text repeat themselves.
+//! and the text repeat themselves. What it compares is the number that the side reads, which may be in lower case.
 
-ghost use Rattle.std.specs.Prelude.{◌≡◌, ◌≢◌, ◌+◌, ◌-◌, ◌<◌, ◌≤◌, ℕ, IsTrue, length};
-ghost use Rattle.wide_search.specs.NextOccurrences.{number_from, IsStop};
+ghost use Rattle.std.specs.Prelude.{◌≡◌, ◌≢◌, ◌+◌, ◌-◌, ◌<◌, ◌≤◌, ℕ, IsTrue, length, map};
+ghost use Rattle.wide_search.specs.Lowercased.{lowercased};
+ghost use Rattle.wide_search.specs.NextOccurrences.{number_from, number_read, IsStop};
 ghost use Rattle.wide_search.specs.Occurrences.{OccursAt};
 
 use crate::factorization::factorize;
 use crate::limits::{OFFSETS_BEFORE_LOOK, OFFSETS_LOOKED_AHEAD};
-use crate::side::{Back, Front, Side};
+use crate::side::{Back, Front, FrontInLowerCase, Side};
 use wide_unit::Unit;
 
 // Returns the first index of the needle, from `from` to before `end`, whose unit differs from that of the text if the
@@ -26,8 +27,8 @@ fn first_difference<C: Unit, S: Side>(
     requires ordered { from ≤ end }
     ensures after { from ≤ result }
     ensures within { result ≤ end }
-    ensures same { (k : ℕ) → from ≤ k → k < result → number_from S.BACK C.number units.now (at + k) ≡ number_from S.BACK C.number needle.now k }
-    ensures differ { result < end → number_from S.BACK C.number units.now (at + result) ≢ number_from S.BACK C.number needle.now result }
+    ensures same { (k : ℕ) → from ≤ k → k < result → number_from S.BACK (number_read S.READ C.number) units.now (at + k) ≡ number_from S.BACK (number_read S.READ C.number) needle.now k }
+    ensures differ { result < end → number_from S.BACK (number_read S.READ C.number) units.now (at + result) ≢ number_from S.BACK (number_read S.READ C.number) needle.now result }
 {
     let mut index = from;
     while index < end && S::unit(units, at + index) == S::unit(needle, index) {
@@ -99,7 +100,7 @@ fn is_pair_nearby<C: Unit, S: Side>(units: &[C], needle: &[C], at: usize) -> boo
 fn next_occurrence<C: Unit, S: Side>(units: &[C], needle: &[C], from: usize) -> Stop
     requires some { 0 < length needle.now }
     requires within { from ≤ length units.now }
-    ensures { IsStop S.BACK C.number needle.now units.now from result }
+    ensures { IsStop S.BACK (number_read S.READ C.number) needle.now units.now from result }
 {
     let parts = factorize::<C, S>(needle);
     let len = needle.len();
@@ -150,6 +151,20 @@ pub(crate) fn find_two_way<C: Unit>(units: &[C], needle: &[C], from: usize) -> S
     ensures before { (k : ℕ) → k < result.at → ¬ (OccursAt needle.now units.now k) }
 {
     next_occurrence::<C, Front>(units, needle, from)
+}
+
+// Searches on from an offset before which the needle does not occur, without regard to the case of ASCII letters.
+// Returns where it stopped.
+pub(crate) fn find_two_way_in_lower_case<C: Unit>(units: &[C], needle: &[C], from: usize) -> Stop
+    requires some { 0 < length needle.now }
+    requires within { from ≤ length units.now }
+    requires before { (k : ℕ) → k < from → ¬ (OccursAt (lowercased (map C.number needle.now)) (lowercased (map C.number units.now)) k) }
+    ensures after { from ≤ result.at }
+    ensures within { result.at ≤ length units.now }
+    ensures here { IsTrue result.is_found → OccursAt (lowercased (map C.number needle.now)) (lowercased (map C.number units.now)) result.at }
+    ensures before { (k : ℕ) → k < result.at → ¬ (OccursAt (lowercased (map C.number needle.now)) (lowercased (map C.number units.now)) k) }
+{
+    next_occurrence::<C, FrontInLowerCase>(units, needle, from)
 }
 
 // Searches back from an offset from which on the needle does not occur. Returns where it stopped: at the offset after

@@ -19,3 +19,4 @@ mod SameLanes
 mod Prefixes
 mod Masks
 mod Pairs
+pub mod Alike

@@ -3,6 +3,7 @@
 #![tactic(auto)]
 
 mod any_units;
+mod case;
 mod chars;
 mod compare;
 mod first;
@@ -19,6 +20,7 @@ mod utf8;
 mod validation;
 
 pub use any_units::AnyUnits;
+pub use case::{ascii_lowercase, ascii_uppercase, common_prefix_ignore_ascii_case};
 pub use chars::{char_of, put_char};
 pub use compare::{common_prefix, order_of_units, same_units};
 pub use first::first_of;

@@ -2,6 +2,7 @@ use Rattle.std.proofs.Common.{false, true, ap, arith, length, map}
 use Rattle.std.specs.Str.TwoWay.{item_from}
 use Rattle.wide_search.specs.Factorizations.{Precedes}
 use Rattle.wide_search.specs.declared.factorization.Suffix.{Suffix}
+use Rattle.wide_search.specs.NextOccurrences.{number_read}
 use Rattle.wide_search.proofs.Orders.{Precedes-irreflexive, Precedes-trans}
 use Rattle.wide_search.proofs.Cuts.{cut-there}
 use Rattle.wide_search.proofs.factorization.factorize.Goals as goal
@@ -9,7 +10,7 @@ use Rattle.wide_search.proofs.factorization.factorize.Goals.{then-ascending-desc
 
 pub returns : goal.returns
 returns g c =
-    let x = item_from g.S.Side.BACK (length c.args.needle.now) (map g.C.Unit.number c.args.needle.now) in
+    let x = item_from g.S.Side.BACK (length c.args.needle.now) (map (number_read g.S.Side.READ g.C.Unit.number) c.args.needle.now) in
     let m = length c.args.needle.now in
     let one = c.greatest_suffix-ascending in
     let two = c.greatest_suffix-descending in

@@ -1,20 +1,21 @@
 use Rattle.std.proofs.Common.{◌≡◌, false, true, refl, length, map}
 use Rattle.std.specs.Str.TwoWay.{item_from}
 use Rattle.wide_search.specs.Factorizations.{Precedes}
+use Rattle.wide_search.specs.NextOccurrences.{number_read}
 use Rattle.wide_search.proofs.Orders.{Precedes-irreflexive, Precedes-trans, Precedes-total}
 use Rattle.wide_search.proofs.Suffixes.{matched-more, next-period, lesser-more, other-starts, greatest-suffix}
 use Rattle.wide_search.proofs.factorization.greatest_suffix.Goals as goal
 
 pub loop-other-preserved-then-precedes : goal.loop-other-preserved-then-precedes
 loop-other-preserved-then-precedes g c =
-    let x = item_from g.S.Side.BACK (length c.args.needle.now) (map g.C.Unit.number c.args.needle.now) in
+    let x = item_from g.S.Side.BACK (length c.args.needle.now) (map (number_read g.S.Side.READ g.C.Unit.number) c.args.needle.now) in
     let l = c.loop-other in
     lesser-more (Precedes c.args.reversed) x (length c.args.needle.now) l.start l.other l.matched l.period l.invariant c.loop-other-test.true
     c.unit-ours.result c.unit-theirs.result c.unit-ours.ensures c.unit-theirs.ensures (Precedes-trans c.args.reversed) (c.if-precedes.ensures.0 refl)
 
 pub loop-other-preserved-then-theirs-ours : goal.loop-other-preserved-then-theirs-ours
 loop-other-preserved-then-theirs-ours g c =
-    let x = item_from g.S.Side.BACK (length c.args.needle.now) (map g.C.Unit.number c.args.needle.now) in
+    let x = item_from g.S.Side.BACK (length c.args.needle.now) (map (number_read g.S.Side.READ g.C.Unit.number) c.args.needle.now) in
     let l = c.loop-other in
     other-starts (Precedes c.args.reversed) x (length c.args.needle.now) l.start l.other l.matched l.period l.invariant c.loop-other-test.true
     c.unit-ours.result c.unit-theirs.result c.unit-ours.ensures c.unit-theirs.ensures (Precedes-trans c.args.reversed)
@@ -22,20 +23,20 @@ loop-other-preserved-then-theirs-ours g c =
 
 pub loop-other-preserved-then-matched-period : goal.loop-other-preserved-then-matched-period
 loop-other-preserved-then-matched-period g c =
-    let x = item_from g.S.Side.BACK (length c.args.needle.now) (map g.C.Unit.number c.args.needle.now) in
+    let x = item_from g.S.Side.BACK (length c.args.needle.now) (map (number_read g.S.Side.READ g.C.Unit.number) c.args.needle.now) in
     let l = c.loop-other in
     matched-more (Precedes c.args.reversed) x (length c.args.needle.now) l.start l.other l.matched l.period l.invariant c.loop-other-test.true
     c.unit-ours.result c.unit-theirs.result c.unit-ours.ensures c.unit-theirs.ensures c.if-theirs-ours.false c.if-matched-period.true
 
 pub loop-other-preserved : goal.loop-other-preserved
 loop-other-preserved g c =
-    let x = item_from g.S.Side.BACK (length c.args.needle.now) (map g.C.Unit.number c.args.needle.now) in
+    let x = item_from g.S.Side.BACK (length c.args.needle.now) (map (number_read g.S.Side.READ g.C.Unit.number) c.args.needle.now) in
     let l = c.loop-other in
     next-period (Precedes c.args.reversed) x (length c.args.needle.now) l.start l.other l.matched l.period l.invariant c.loop-other-test.true
     c.unit-ours.result c.unit-theirs.result c.unit-ours.ensures c.unit-theirs.ensures c.if-theirs-ours.false c.if-matched-period.false
 
 pub returns : goal.returns
 returns g c =
-    let x = item_from g.S.Side.BACK (length c.args.needle.now) (map g.C.Unit.number c.args.needle.now) in
+    let x = item_from g.S.Side.BACK (length c.args.needle.now) (map (number_read g.S.Side.READ g.C.Unit.number) c.args.needle.now) in
     let l = c.loop-other in
     greatest-suffix (Precedes c.args.reversed) x (length c.args.needle.now) l.start l.other l.matched l.period l.invariant (Precedes-irreflexive c.args.reversed) c.loop-other-test.false

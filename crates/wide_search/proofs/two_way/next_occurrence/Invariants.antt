@@ -1,5 +1,5 @@
 use Rattle.std.proofs.Common.{◌≡◌, ◌-◌, ◌+◌, ◌<◌, ◌≤◌, ℕ, length}
-use Rattle.wide_search.specs.NextOccurrences.{number_from, OccursFrom}
+use Rattle.wide_search.specs.NextOccurrences.{number_from, number_read, OccursFrom}
 use Rattle.wide_search.proofs.two_way.next_occurrence.Given as goal
 
 -- The needle occurs at none of the offsets before `at`, and its first `known` units match at `at`.
@@ -8,8 +8,8 @@ invariant-loop-at g l = record {
   within : l.at ≤ length l.units;
   after : l.from ≤ l.at;
   few : l.known ≤ length l.needle;
-  before : (k : ℕ) → l.from ≤ k → k < l.at → ¬ (OccursFrom g.S.Side.BACK g.C.Unit.number l.needle l.units k);
-  same : (k : ℕ) → k < l.known → number_from g.S.Side.BACK g.C.Unit.number l.units (l.at + k) ≡ number_from g.S.Side.BACK g.C.Unit.number l.needle k;
+  before : (k : ℕ) → l.from ≤ k → k < l.at → ¬ (OccursFrom g.S.Side.BACK (number_read g.S.Side.READ g.C.Unit.number) l.needle l.units k);
+  same : (k : ℕ) → k < l.known → number_from g.S.Side.BACK (number_read g.S.Side.READ g.C.Unit.number) l.units (l.at + k) ≡ number_from g.S.Side.BACK (number_read g.S.Side.READ g.C.Unit.number) l.needle k;
 }
 
 abbrev pub decreases-loop-at : goal.decreases-loop-at
