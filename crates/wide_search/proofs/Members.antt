@@ -1,11 +1,11 @@
 -- Items that are read one by one as long as they are characters of a set, or are none.
 use Rattle.std.proofs.Common.{◌≡◌, ℕ, ◌+◌, ◌-◌, ◌≤◌, Bool, true, false, List, [], ◌∷◌, ◌++◌, length, map, take, drop, arith, refl, sym, ap, subst, ◌∙◌, append_assoc}
-use Rattle.std.proofs.lemmas.List.{append-nil, length-append, length-map, drop-map, take-map}
+use Rattle.std.proofs.lemmas.List.{append-nil, length-append, length-map, drop-map, take-map, reverse-append, reverse-reverse}
 use Rattle.std.proofs.lemmas.List.Elements.{All-nil, All-cons, All-push, All-same, All-head, All-tail}
 use Rattle.std.proofs.Math.Seq.{drop-append_seam, take-append_seam}
 use Rattle.std.specs.Char.{IsScalar}
 use Rattle.std.specs.List.{All}
-use Rattle.std.specs.Prelude.{if◌then◌else◌}
+use Rattle.std.specs.Prelude.{if◌then◌else◌, reverse}
 use Rattle.wide_forms.specs.EncodingForm.{EncodingForm, code_units}
 use Rattle.wide_forms.specs.Segmentation.{Item, Char, Fault, item_units, units_of}
 use Rattle.wide_forms.specs.Items.{items, chars, IsWellFormed}
@@ -16,7 +16,7 @@ use Rattle.wide_forms.specs.Laws.Forms.{some_units}
 use Rattle.wide_forms.specs.Laws.Items.{units_of-items, items-chain, items-of_chain, units_of-chars, chars-of_well_formed}
 use Rattle.wide_forms.specs.Laws.Offsets.{chars-encode, scalars-chars}
 use Rattle.wide_unit.proofs.CharBoundaries.{IsCharBoundary-of}
-use Rattle.wide_search.specs.Sets.{is_member, onto_first, between, substrings_between, IsLongestPrefix, IsLongestSuffix, IsFirstMember}
+use Rattle.wide_search.specs.Sets.{is_member, onto_first, between, skip_while, without_prefix, without_suffix, substrings_between, IsLongestPrefix, IsLongestSuffix, IsFirstMember}
 
 units_of-one : (form : EncodingForm) (i : Item) → units_of form (i ∷ []) ≡ item_units form i
 units_of-one form i = append-nil (item_units form i)
@@ -44,6 +44,9 @@ module _ (form : EncodingForm) (us : List ℕ) (is js : List Item) (joined : ite
 
   pub units-before : take (length (units_of form is)) us ≡ units_of form is
   units-before = ap (take (length (units_of form is))) all-units ∙ take-append_seam (units_of form is) (units_of form js)
+
+  pub units-from : drop (length (units_of form is)) us ≡ units_of form js
+  units-from = ap (drop (length (units_of form is))) all-units ∙ drop-append_seam (units_of form is) (units_of form js)
 
   pub items-from : items form (drop (length (units_of form is)) us) ≡ js
   items-from =
@@ -162,6 +165,43 @@ module _ {C : Type 0} (form : EncodingForm) (number : C → ℕ) (has : ℕ → 
       begins = longest.length;
       ends = omega (arith, length-units_of-append form longest.prefix (Char c ∷ []), ap length (units_of-one form (Char c)), long, longest.length, within);
     }
+
+other_of : (b : Bool) → ¬ (b ≡ true) → b ≡ false
+other_of true other = absurd (other refl)
+other_of false other = refl
+
+-- What is left when the elements that satisfy a predicate are skipped.
+module _ {A : Type 0} (passes : A → Bool) where
+  abbrev Passes : A → Type 0
+  Passes x = passes x ≡ true
+
+  pub skip-prefix : (prefix rest : List A) → All Passes prefix → ((x : A) (more : List A) → rest ≡ x ∷ more → ¬ (Passes x)) → skip_while passes (prefix ++ rest) ≡ rest
+  skip-prefix [] [] all ends = refl
+  skip-prefix [] (x ∷ rest) all ends = rw (other_of (passes x) (ends x rest refl)) refl
+  skip-prefix (y ∷ prefix) rest all ends = rw (All-head Passes y prefix all) (skip-prefix prefix rest (All-tail Passes y prefix all) ends)
+
+  all-reverse : (xs : List A) → All Passes xs → All Passes (reverse xs)
+  all-reverse [] all = All-nil Passes
+  all-reverse (x ∷ xs) all =
+      All-same Passes (reverse (x ∷ xs)) (reverse xs ++ x ∷ []) (reverse-append (x ∷ []) xs)
+      (All-push Passes (reverse xs) x (all-reverse xs (All-tail Passes x xs all)) (All-head Passes x xs all))
+
+  pub skip-suffix : (rest suffix : List A) → All Passes suffix → ((others : List A) (x : A) → rest ≡ others ++ x ∷ [] → ¬ (Passes x)) → reverse (skip_while passes (reverse (rest ++ suffix))) ≡ rest
+  skip-suffix rest suffix all begins =
+      ap (λ xs. reverse (skip_while passes xs)) (reverse-append rest suffix)
+      ∙ ap reverse (skip-prefix (reverse suffix) (reverse rest) (all-reverse suffix all) (λ x more e. begins (reverse more) x (sym (reverse-reverse rest) ∙ ap reverse e ∙ reverse-append (x ∷ []) more)))
+      ∙ reverse-reverse rest
+
+module _ {C : Type 0} (form : EncodingForm) (number : C → ℕ) (has : ℕ → Bool) (us : List C) (at : ℕ) where
+  pub prefix-removed : IsLongestPrefix form has true (map number us) at → map number (drop at us) ≡ without_prefix form has (map number us)
+  prefix-removed longest =
+      sym (drop-map number at us) ∙ ap (λ n. drop n (map number us)) (sym longest.length) ∙ units-from form (map number us) longest.prefix longest.rest longest.joined
+      ∙ ap (units_of form) (sym (ap (skip_while (is_member has)) longest.joined ∙ skip-prefix (is_member has) longest.prefix longest.rest longest.all longest.ends))
+
+  pub suffix-removed : IsLongestSuffix form has true (map number us) at → map number (take at us) ≡ without_suffix form has (map number us)
+  suffix-removed longest =
+      sym (take-map number at us) ∙ ap (λ n. take n (map number us)) (sym longest.length) ∙ units-before form (map number us) longest.rest longest.suffix longest.joined
+      ∙ ap (units_of form) (sym (ap (λ is. reverse (skip_while (is_member has) (reverse is))) longest.joined ∙ skip-suffix (is_member has) longest.rest longest.suffix longest.all longest.begins))
 
 -- The lists between elements that separate.
 module _ {A : Type 0} (separates : A → Bool) where

@@ -1,5 +1,5 @@
 -- Characters of a set in units, and the substrings between them.
-use Rattle.std.specs.Prelude.{◌≡◌, ℕ, Bool, true, false, ◌==◌, ◌||◌, if◌then◌else◌, List, [], ◌∷◌, ◌++◌, map, length}
+use Rattle.std.specs.Prelude.{◌≡◌, ℕ, Bool, true, false, ◌==◌, ◌||◌, if◌then◌else◌, List, [], ◌∷◌, ◌++◌, map, length, reverse}
 use Rattle.std.specs.List.{All}
 use Rattle.wide_forms.specs.EncodingForm.{EncodingForm}
 use Rattle.wide_forms.specs.Segmentation.{Item, Char, Fault, units_of}
@@ -25,6 +25,23 @@ module _ {A : Type 0} where
   abbrev pub between : (A → Bool) → List A → List (List A)
   between separates [] = [] ∷ []
   between separates (x ∷ xs) = if separates x then [] ∷ between separates xs else onto_first x (between separates xs)
+
+  -- The elements from the first one on that does not satisfy the predicate.
+  abbrev pub skip_while : (A → Bool) → List A → List A
+  skip_while passes [] = []
+  skip_while passes (x ∷ xs) = if passes x then skip_while passes xs else x ∷ xs
+
+-- The units after their longest prefix of characters of a set.
+abbrev pub without_prefix : EncodingForm → (ℕ → Bool) → List ℕ → List ℕ
+without_prefix form has us = units_of form (skip_while (is_member has) (items form us))
+
+-- The units before their longest suffix of characters of a set.
+abbrev pub without_suffix : EncodingForm → (ℕ → Bool) → List ℕ → List ℕ
+without_suffix form has us = units_of form (reverse (skip_while (is_member has) (reverse (items form us))))
+
+-- The units without their longest prefix, and then without their longest suffix, of characters of a set.
+abbrev pub without_ends : EncodingForm → (ℕ → Bool) → List ℕ → List ℕ
+without_ends form has us = without_suffix form has (without_prefix form has us)
 
 -- The numbers of the units of each substring between the characters of a set.
 abbrev pub substrings_between : EncodingForm → (ℕ → Bool) → List ℕ → List (List ℕ)

@@ -4,18 +4,18 @@ ghost use Rattle.std.specs.Prelude.{◌≡◌, ◌<◌, ◌≤◌, ◌+◌, ◌^
 ghost use Rattle.std.specs.Char.{is_whitespace, is_ascii_whitespace};
 ghost use Rattle.std.specs.List.{All};
 ghost use Rattle.wide_forms.specs.Items.{items};
-ghost use Rattle.wide_search.specs.Sets.{is_member, substrings_between, IsFirstMember};
+ghost use Rattle.wide_search.specs.Sets.{is_member, substrings_between, without_prefix, without_suffix, without_ends, IsFirstMember};
 ghost use Rattle.wide_ucstr.specs.View.{contents_seen};
-ghost use Rattle.wide_ustr.specs.Sets.{any_substrings_left, any_filled_left, IsPastPrefix, IsBeforeSuffix, IsWithoutEnds};
+ghost use Rattle.wide_ustr.specs.Sets.{any_substrings_left, any_filled_left};
 ghost use Rattle.wide_ustr.specs.SplitMore.{filled};
 ghost use Rattle.wide_ustr.specs.View.{numbers_seen};
 
 use crate::view::UCStr;
 use wide_search::{AsciiWhiteSpace, CharSet, WhiteSpace};
-use wide_unit::Unit;
 use wide_ustr::{AnyOf, Split, SplitFilled, UStr};
+use wide_utferror::FaultUnit;
 
-impl<'a, C: Unit> UCStr<'a, C> {
+impl<'a, C: FaultUnit> UCStr<'a, C> {
     /// Returns the offset, in units, at which the first character of the set begins, or `None` if the contents have none.
     /// Half of a surrogate pair is no character, so it is in no set.
     ///
@@ -103,7 +103,7 @@ impl<'a, C: Unit> UCStr<'a, C> {
     /// assert!(rt; number.trim_start_matches('0') == U16Str::from_slice(&[0x37, 0x30]));
     /// ```
     pub fn trim_start_matches<S: CharSet>(self, set: S) -> UStr<'a, C>
-        ensures { IsPastPrefix C.form (S.has set) (map C.number (contents_seen self.entry)) (numbers_seen C.number result) }
+        ensures { numbers_seen C.number result ≡ without_prefix C.form (S.has set) (map C.number (contents_seen self.entry)) }
     {
         self.as_ustr().trim_start_matches(set)
     }
@@ -118,7 +118,7 @@ impl<'a, C: Unit> UCStr<'a, C> {
     /// assert!(rt; folder.trim_end_matches('/') == U16Str::from_slice(&[0x2f, 0x61]));
     /// ```
     pub fn trim_end_matches<S: CharSet>(self, set: S) -> UStr<'a, C>
-        ensures { IsBeforeSuffix C.form (S.has set) (map C.number (contents_seen self.entry)) (numbers_seen C.number result) }
+        ensures { numbers_seen C.number result ≡ without_suffix C.form (S.has set) (map C.number (contents_seen self.entry)) }
     {
         self.as_ustr().trim_end_matches(set)
     }
@@ -133,7 +133,7 @@ impl<'a, C: Unit> UCStr<'a, C> {
     /// assert!(rt; quoted.trim_matches('"') == U16Str::from_slice(&[0xd800]));
     /// ```
     pub fn trim_matches<S: CharSet>(self, set: S) -> UStr<'a, C>
-        ensures { IsWithoutEnds C.form (S.has set) (map C.number (contents_seen self.entry)) (numbers_seen C.number result) }
+        ensures { numbers_seen C.number result ≡ without_ends C.form (S.has set) (map C.number (contents_seen self.entry)) }
     {
         self.as_ustr().trim_matches(set)
     }
@@ -147,7 +147,7 @@ impl<'a, C: Unit> UCStr<'a, C> {
     /// assert!(rt; value.trim_start() == U16Str::from_slice(&[0xd800, 0x20]));
     /// ```
     pub fn trim_start(self) -> UStr<'a, C>
-        ensures { IsPastPrefix C.form is_whitespace (map C.number (contents_seen self.entry)) (numbers_seen C.number result) }
+        ensures { numbers_seen C.number result ≡ without_prefix C.form is_whitespace (map C.number (contents_seen self.entry)) }
     {
         self.as_ustr().trim_start()
     }
@@ -161,7 +161,7 @@ impl<'a, C: Unit> UCStr<'a, C> {
     /// assert!(rt; line.trim_end() == U16Str::from_slice(&[0x20, 0xd800]));
     /// ```
     pub fn trim_end(self) -> UStr<'a, C>
-        ensures { IsBeforeSuffix C.form is_whitespace (map C.number (contents_seen self.entry)) (numbers_seen C.number result) }
+        ensures { numbers_seen C.number result ≡ without_suffix C.form is_whitespace (map C.number (contents_seen self.entry)) }
     {
         self.as_ustr().trim_end()
     }
@@ -176,7 +176,7 @@ impl<'a, C: Unit> UCStr<'a, C> {
     /// assert!(rt; value.trim() == U16Str::from_slice(&[0xd800, 0x20, 0x61]));
     /// ```
     pub fn trim(self) -> UStr<'a, C>
-        ensures { IsWithoutEnds C.form is_whitespace (map C.number (contents_seen self.entry)) (numbers_seen C.number result) }
+        ensures { numbers_seen C.number result ≡ without_ends C.form is_whitespace (map C.number (contents_seen self.entry)) }
     {
         self.as_ustr().trim()
     }

@@ -1,26 +1,14 @@
--- What is left of units without characters of a set at their ends, and what an iterator that splits them will yield.
-use Rattle.std.specs.Prelude.{◌≡◌, ℕ, Bool, true, List, take, drop}
+-- What an iterator that splits units at the characters of a set will yield.
+use Rattle.std.specs.Prelude.{ℕ, Bool, List}
 use Rattle.wide_forms.specs.EncodingForm.{EncodingForm}
-use Rattle.wide_search.specs.Sets.{substrings_between, IsLongestPrefix, IsLongestSuffix}
+use Rattle.wide_search.specs.Sets.{substrings_between}
 use Rattle.wide_ustr.specs.Split.{substrings_left}
-use Rattle.wide_ustr.specs.SplitMore.{filled, filled_left}
+use Rattle.wide_ustr.specs.SplitMore.{filled_left}
 use Rattle.wide_ustr.specs.View.{numbers_seen}
 use Rattle.wide_ustr.specs.declared.sets.AnyOf.{AnyOf}
 use Rattle.wide_ustr.specs.declared.split.Split.{Split}
 use Rattle.wide_ustr.specs.declared.split_filled.SplitFilled.{SplitFilled}
 use Rattle.wide_ustr.specs.declared.view.UStr.{UStr}
-
--- `rest` is what follows the longest prefix of units that consists of characters of the set.
-abbrev pub IsPastPrefix : EncodingForm → (ℕ → Bool) → List ℕ → List ℕ → Type 0
-IsPastPrefix form has us rest = (at : ℕ) × IsLongestPrefix form has true us at × (rest ≡ drop at us)
-
--- `rest` is what precedes the longest suffix of units that consists of characters of the set.
-abbrev pub IsBeforeSuffix : EncodingForm → (ℕ → Bool) → List ℕ → List ℕ → Type 0
-IsBeforeSuffix form has us rest = (at : ℕ) × IsLongestSuffix form has true us at × (rest ≡ take at us)
-
--- `rest` is what is left of units without the longest prefix and then the longest suffix of characters of the set.
-abbrev pub IsWithoutEnds : EncodingForm → (ℕ → Bool) → List ℕ → List ℕ → Type 0
-IsWithoutEnds form has us rest = (mid : List ℕ) × IsPastPrefix form has us mid × IsBeforeSuffix form has mid rest
 
 -- How units are split at any character of a set.
 abbrev pub cut_at_any : {S : Type 0} → EncodingForm → (S → ℕ → Bool) → AnyOf S → List ℕ → List (List ℕ)

@@ -5,8 +5,8 @@ ghost use Rattle.std.specs.Char.{is_whitespace, is_ascii_whitespace};
 ghost use Rattle.std.specs.List.{All};
 ghost use Rattle.wide_forms.specs.Items.{items};
 ghost use Rattle.wide_search.specs.Laws.Sets.{between-some};
-ghost use Rattle.wide_search.specs.Sets.{is_member, substrings_between, IsFirstMember};
-ghost use Rattle.wide_ustr.specs.Sets.{cut_at_any, any_substrings_left, any_filled_left, IsPastPrefix, IsBeforeSuffix, IsWithoutEnds};
+ghost use Rattle.wide_search.specs.Sets.{is_member, substrings_between, without_prefix, without_suffix, without_ends, IsFirstMember};
+ghost use Rattle.wide_ustr.specs.Sets.{cut_at_any, any_substrings_left, any_filled_left};
 ghost use Rattle.wide_ustr.specs.SplitMore.{filled};
 ghost use Rattle.wide_ustr.specs.View.{units_seen, numbers_seen};
 
@@ -157,7 +157,7 @@ impl<C: Unit> UStr<'_, C> {
     /// assert!(rt; number.trim_start_matches('0') == U16Str::from_slice(&[0x37, 0x30]));
     /// ```
     pub fn trim_start_matches<S: CharSet>(self, set: S) -> Self
-        ensures { IsPastPrefix C.form (S.has set) (numbers_seen C.number self.entry) (numbers_seen C.number result) }
+        ensures { numbers_seen C.number result ≡ without_prefix C.form (S.has set) (numbers_seen C.number self.entry) }
     {
         let (_, rest) = self.split_at(prefix_of_set(self.units, set, true));
         rest
@@ -173,7 +173,7 @@ impl<C: Unit> UStr<'_, C> {
     /// assert!(rt; folder.trim_end_matches('/') == U16Str::from_slice(&[0x2f, 0x61]));
     /// ```
     pub fn trim_end_matches<S: CharSet>(self, set: S) -> Self
-        ensures { IsBeforeSuffix C.form (S.has set) (numbers_seen C.number self.entry) (numbers_seen C.number result) }
+        ensures { numbers_seen C.number result ≡ without_suffix C.form (S.has set) (numbers_seen C.number self.entry) }
     {
         let (rest, _) = self.split_at(suffix_of_set(self.units, set, true));
         rest
@@ -189,7 +189,7 @@ impl<C: Unit> UStr<'_, C> {
     /// assert!(rt; quoted.trim_matches('"') == U16Str::from_slice(&[0xd800]));
     /// ```
     pub fn trim_matches<S: CharSet>(self, set: S) -> Self
-        ensures { IsWithoutEnds C.form (S.has set) (numbers_seen C.number self.entry) (numbers_seen C.number result) }
+        ensures { numbers_seen C.number result ≡ without_ends C.form (S.has set) (numbers_seen C.number self.entry) }
     {
         self.trim_start_matches(set).trim_end_matches(set)
     }
@@ -203,7 +203,7 @@ impl<C: Unit> UStr<'_, C> {
     /// assert!(rt; value.trim_start() == U16Str::from_slice(&[0xd800, 0x20]));
     /// ```
     pub fn trim_start(self) -> Self
-        ensures { IsPastPrefix C.form is_whitespace (numbers_seen C.number self.entry) (numbers_seen C.number result) }
+        ensures { numbers_seen C.number result ≡ without_prefix C.form is_whitespace (numbers_seen C.number self.entry) }
     {
         self.trim_start_matches(WhiteSpace)
     }
@@ -217,7 +217,7 @@ impl<C: Unit> UStr<'_, C> {
     /// assert!(rt; line.trim_end() == U16Str::from_slice(&[0x20, 0xd800]));
     /// ```
     pub fn trim_end(self) -> Self
-        ensures { IsBeforeSuffix C.form is_whitespace (numbers_seen C.number self.entry) (numbers_seen C.number result) }
+        ensures { numbers_seen C.number result ≡ without_suffix C.form is_whitespace (numbers_seen C.number self.entry) }
     {
         self.trim_end_matches(WhiteSpace)
     }
@@ -232,7 +232,7 @@ impl<C: Unit> UStr<'_, C> {
     /// assert!(rt; value.trim() == U16Str::from_slice(&[0xd800, 0x20, 0x61]));
     /// ```
     pub fn trim(self) -> Self
-        ensures { IsWithoutEnds C.form is_whitespace (numbers_seen C.number self.entry) (numbers_seen C.number result) }
+        ensures { numbers_seen C.number result ≡ without_ends C.form is_whitespace (numbers_seen C.number self.entry) }
     {
         self.trim_matches(WhiteSpace)
     }

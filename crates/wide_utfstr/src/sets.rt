@@ -6,8 +6,8 @@ ghost use Rattle.std.specs.List.{All};
 ghost use Rattle.wide_forms.specs.Items.{items, chars};
 ghost use Rattle.wide_forms.specs.Offsets.{IsCharBoundary};
 ghost use Rattle.wide_search.specs.Laws.Sets.{between-some};
-ghost use Rattle.wide_search.specs.Sets.{is_member, between, substrings_between, IsFirstMember};
-ghost use Rattle.wide_ustr.specs.Sets.{cut_at_any, IsPastPrefix, IsBeforeSuffix, IsWithoutEnds};
+ghost use Rattle.wide_search.specs.Sets.{is_member, between, substrings_between, without_prefix, without_suffix, without_ends, IsFirstMember};
+ghost use Rattle.wide_ustr.specs.Sets.{cut_at_any};
 ghost use Rattle.wide_ustr.specs.SplitMore.{filled};
 ghost use Rattle.wide_utfstr.specs.Sets.{any_substrings_left, any_filled_left};
 ghost use Rattle.wide_utfstr.specs.View.{units_seen, numbers_seen, text_seen};
@@ -141,7 +141,7 @@ impl<C: Unit> UtfStr<'_, C> {
     /// assert!(rt; number.trim_start_matches('0').eq_str("70"));
     /// ```
     pub fn trim_start_matches<S: CharSet>(self, set: S) -> Self
-        ensures { IsPastPrefix C.form (S.has set) (numbers_seen C.number self.entry) (numbers_seen C.number result) }
+        ensures { numbers_seen C.number result ≡ without_prefix C.form (S.has set) (numbers_seen C.number self.entry) }
     {
         let (_, rest) = self.split_at(prefix_of_set(self.as_slice(), set, true));
         rest
@@ -157,7 +157,7 @@ impl<C: Unit> UtfStr<'_, C> {
     /// assert!(rt; folder.trim_end_matches('/').eq_str("/é"));
     /// ```
     pub fn trim_end_matches<S: CharSet>(self, set: S) -> Self
-        ensures { IsBeforeSuffix C.form (S.has set) (numbers_seen C.number self.entry) (numbers_seen C.number result) }
+        ensures { numbers_seen C.number result ≡ without_suffix C.form (S.has set) (numbers_seen C.number self.entry) }
     {
         let (rest, _) = self.split_at(suffix_of_set(self.as_slice(), set, true));
         rest
@@ -173,7 +173,7 @@ impl<C: Unit> UtfStr<'_, C> {
     /// assert!(rt; quoted.trim_matches('"').eq_str("😀"));
     /// ```
     pub fn trim_matches<S: CharSet>(self, set: S) -> Self
-        ensures { IsWithoutEnds C.form (S.has set) (numbers_seen C.number self.entry) (numbers_seen C.number result) }
+        ensures { numbers_seen C.number result ≡ without_ends C.form (S.has set) (numbers_seen C.number self.entry) }
     {
         self.trim_start_matches(set).trim_end_matches(set)
     }
