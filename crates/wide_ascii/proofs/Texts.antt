@@ -8,8 +8,9 @@ use Rattle.std.proofs.Math.Utf8.{low_scalar}
 use Rattle.std.proofs.Math.ListN.{get_or-map}
 use Rattle.std.proofs.lemmas.List.{map-append, length-map}
 use Rattle.std.proofs.lemmas.List.Elements.{All-map, All-weaker}
-use Rattle.wide_forms.specs.EncodingForm.{EncodingForm, Utf16, Utf32, code_units, encode}
+use Rattle.wide_forms.specs.EncodingForm.{EncodingForm, Utf16, Utf32, code_units, encode, IsLowSurrogate}
 use Rattle.wide_forms.specs.Items.{chars, IsWellFormed}
+use Rattle.wide_forms.specs.Offsets.{IsCharBoundary}
 use Rattle.wide_unit.specs.Nul.{IsFirstNul}
 use Rattle.wide_forms.specs.Laws.Forms.{one_unit, two_units, high_of, low_of}
 use Rattle.wide_forms.specs.Laws.Offsets.{chars-encode, encode-chars, IsWellFormed-encode, scalars-chars}
@@ -53,6 +54,17 @@ module _ (f : ℕ → ℕ) (of_ascii : IsOfAscii f) where
     at = (omega (arith, is.at.0, length-map us f), at-mapped us at ∙ ap f is.at.1 ∙ of_ascii.nul);
     before = λ earlier below nul. is.before earlier below (omega (arith, nul.0, length-map us f), of_ascii.nul_alone _ (sym (at-mapped us earlier) ∙ nul.1));
   }
+
+  past-low : (form : EncodingForm) (u : ℕ) → IsLowSurrogate form u → 128 ≤ u
+  past-low Utf16 u low = omega (arith, low.0)
+  past-low Utf32 u low = absurd low
+
+  -- A boundary of mapped units is one of the units.
+  pub IsCharBoundary-of_mapped : (form : EncodingForm) (us : List ℕ) (at : ℕ) → IsCharBoundary form (map f us) at → IsCharBoundary form us at
+  IsCharBoundary-of_mapped form us at is = (
+    omega (arith, is.0, length-map us f),
+    λ some below low. is.1 some (omega (arith, below, length-map us f)) (subst (IsLowSurrogate form) (sym (at-mapped us at ∙ of_ascii.other (get_or us at 0) (past-low form (get_or us at 0) low))) low),
+  )
 
   units-mapped : (form : EncodingForm) (c : ℕ) → map f (code_units form c) ≡ code_units form (f c)
   units-mapped Utf32 c = refl

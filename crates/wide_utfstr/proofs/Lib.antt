@@ -10,3 +10,4 @@ mod SameChunks
 mod Escaped
 mod Displayed
 mod Ordered
+mod Lowercase

@@ -1,7 +1,11 @@
-//! ASCII in views of well-formed text.
-ghost use Rattle.std.specs.Prelude.{◌≡◌, ◌↔◌, map, IsTrue, IsAscii};
+//! ASCII in views of well-formed text: whether all characters are ASCII, and comparisons and searches without regard to
+//! the case of its letters.
+ghost use Rattle.std.specs.Prelude.{◌≡◌, ◌↔◌, ◌+◌, ◌≤◌, length, map, IsTrue, IsAscii, IfNone, IfSome};
 ghost use Rattle.std.specs.Char.{to_ascii_lowercase};
-ghost use Rattle.wide_utfstr.specs.View.{numbers_seen};
+ghost use Rattle.wide_forms.specs.Offsets.{IsCharBoundary};
+ghost use Rattle.wide_search.specs.Lowercased.{lowercased};
+ghost use Rattle.wide_search.specs.Occurrences.{OccursIn, IsFirstAt, OccursNowhere, BeginsWith, EndsWith};
+ghost use Rattle.wide_utfstr.specs.View.{units_seen, numbers_seen};
 
 use crate::view::UtfStr;
 use wide_unit::Unit;
@@ -35,5 +39,81 @@ impl<C: Unit> UtfStr<'_, C> {
         ensures { IsTrue result ↔ (map to_ascii_lowercase (numbers_seen C.number self.entry) ≡ map to_ascii_lowercase (numbers_seen C.number other.entry)) }
     {
         wide_ascii::eq_ignore_ascii_case(self.as_slice(), other.as_slice())
+    }
+
+    /// Returns whether the view begins with the needle, without regard to the case of ASCII letters. It does if the
+    /// needle is empty. A letter past ASCII differs from the one in the other case.
+    ///
+    /// # Example
+    ///
+    /// ```
+    /// let key = Utf16String::from_str(rt.alloc(), "HKLM\\Größe")?;
+    /// let root = Utf16String::from_str(rt.alloc(), "hklm\\g")?;
+    /// assert!(rt; key.as_utfstr().starts_with_ignore_ascii_case(root.as_utfstr()));
+    /// ```
+    pub fn starts_with_ignore_ascii_case(self, needle: UtfStr<'_, C>) -> bool
+        ensures { IsTrue result ↔ BeginsWith (lowercased (numbers_seen C.number needle.entry)) (lowercased (numbers_seen C.number self.entry)) }
+    {
+        wide_search::starts_with_ignore_ascii_case(self.as_slice(), needle.as_slice())
+    }
+
+    /// Returns whether the view ends with the needle, without regard to the case of ASCII letters. It does if the
+    /// needle is empty. A letter past ASCII differs from the one in the other case.
+    ///
+    /// # Example
+    ///
+    /// ```
+    /// let file = Utf16String::from_str(rt.alloc(), "Größe.TXT")?;
+    /// let extension = Utf16String::from_str(rt.alloc(), ".txt")?;
+    /// assert!(rt; file.as_utfstr().ends_with_ignore_ascii_case(extension.as_utfstr()));
+    /// ```
+    pub fn ends_with_ignore_ascii_case(self, needle: UtfStr<'_, C>) -> bool
+        ensures { IsTrue result ↔ EndsWith (lowercased (numbers_seen C.number needle.entry)) (lowercased (numbers_seen C.number self.entry)) }
+    {
+        wide_search::ends_with_ignore_ascii_case(self.as_slice(), needle.as_slice())
+    }
+
+    /// Returns whether the needle occurs anywhere in the view, without regard to the case of ASCII letters. An empty
+    /// needle does. A letter past ASCII differs from the one in the other case.
+    ///
+    /// # Example
+    ///
+    /// ```
+    /// let name = Utf16String::from_str(rt.alloc(), "Größe.TXT")?;
+    /// let part = Utf16String::from_str(rt.alloc(), "E.t")?;
+    /// assert!(rt; name.as_utfstr().contains_ignore_ascii_case(part.as_utfstr()));
+    /// ```
+    pub fn contains_ignore_ascii_case(self, needle: UtfStr<'_, C>) -> bool
+        ensures { IsTrue result ↔ OccursIn (lowercased (numbers_seen C.number needle.entry)) (lowercased (numbers_seen C.number self.entry)) }
+    {
+        self.find_ignore_ascii_case(needle).is_some()
+    }
+
+    /// Returns the offset, in units, of the first occurrence of the needle without regard to the case of ASCII letters,
+    /// or `None` if there is none. An empty needle occurs at the start. A letter past ASCII differs from the one in the
+    /// other case. The offset and the end of the occurrence are character boundaries.
+    ///
+    /// It looks, vectorized, for offsets at which the first and the last unit of the needle both match in either case,
+    /// and compares units there up to one that differs. If too many are compared in vain, as they may be if the needle
+    /// repeats itself, the two-way search passes the next offsets, so the time is linear in both lengths. It does not
+    /// allocate.
+    ///
+    /// # Example
+    ///
+    /// ```
+    /// let file = Utf16String::from_str(rt.alloc(), "Größe.TXT")?;
+    /// let extension = Utf16String::from_str(rt.alloc(), ".txt")?;
+    /// let at = file.as_utfstr().find_ignore_ascii_case(extension.as_utfstr());
+    /// assert!(rt; at == Some(5));
+    /// assert!(rt; extension.as_utfstr().find_ignore_ascii_case(file.as_utfstr()).is_none());
+    /// ```
+    pub fn find_ignore_ascii_case(self, needle: UtfStr<'_, C>) -> Option<usize>
+        ensures first { IfSome result (IsFirstAt (lowercased (numbers_seen C.number needle.entry)) (lowercased (numbers_seen C.number self.entry))) }
+        ensures none { IfNone result (OccursNowhere (lowercased (numbers_seen C.number needle.entry)) (lowercased (numbers_seen C.number self.entry))) }
+        ensures within { IfSome result (λ at. at + length (units_seen needle.entry) ≤ length (units_seen self.entry)) }
+        ensures char_boundary { IfSome result (IsCharBoundary C.form (numbers_seen C.number self.entry)) }
+        ensures beyond { IfSome result (λ at. IsCharBoundary C.form (numbers_seen C.number self.entry) (at + length (units_seen needle.entry))) }
+    {
+        wide_search::find_ignore_ascii_case(self.as_slice(), needle.as_slice())
     }
 }

@@ -17,6 +17,7 @@ pub use Rattle.wide_forms.specs.Searches
 pub use Rattle.wide_unit.specs.CommonPrefix
 pub use Rattle.wide_forms.specs.Statements
 pub use Rattle.wide_search.specs.Occurrences
+pub use Rattle.wide_search.specs.Lowercased
 pub use Rattle.wide_search.specs.Substrings as SearchSubstrings
 pub use Rattle.wide_search.specs.Cut as SearchCut
 pub use Rattle.wide_search.specs.Statements as SearchStatements
