@@ -16,7 +16,7 @@ use Rattle.wide_forms.specs.Laws.Forms.{some_units}
 use Rattle.wide_forms.specs.Laws.Items.{units_of-items, items-chain, items-of_chain, units_of-chars, chars-of_well_formed}
 use Rattle.wide_forms.specs.Laws.Offsets.{chars-encode, scalars-chars}
 use Rattle.wide_unit.proofs.CharBoundaries.{IsCharBoundary-of}
-use Rattle.wide_search.specs.Sets.{is_member, onto_first, between, skip_while, without_prefix, without_suffix, substrings_between, IsLongestPrefix, IsLongestSuffix, IsFirstMember}
+use Rattle.wide_search.specs.Sets.{is_member, onto_first, between, skip_while, without_prefix, without_suffix, without_ends, substrings_between, IsLongestPrefix, IsLongestSuffix, IsFirstMember}
 
 units_of-one : (form : EncodingForm) (i : Item) → units_of form (i ∷ []) ≡ item_units form i
 units_of-one form i = append-nil (item_units form i)
@@ -191,6 +191,25 @@ module _ {A : Type 0} (passes : A → Bool) where
       ap (λ xs. reverse (skip_while passes xs)) (reverse-append rest suffix)
       ∙ ap reverse (skip-prefix (reverse suffix) (reverse rest) (all-reverse suffix all) (λ x more e. begins (reverse more) x (sym (reverse-reverse rest) ∙ ap reverse e ∙ reverse-append (x ∷ []) more)))
       ∙ reverse-reverse rest
+
+  skipped : (xs : List A) → (prefix : List A) × (xs ≡ prefix ++ skip_while passes xs)
+  skipped [] = ([], refl)
+  skipped (x ∷ xs) = one_more (passes x) x xs (skipped xs)
+    where
+      one_more : (b : Bool) (x : A) (xs : List A) → (prefix : List A) × (xs ≡ prefix ++ skip_while passes xs) → (prefix : List A) × (x ∷ xs ≡ prefix ++ (if b then skip_while passes xs else x ∷ xs))
+      one_more true x xs so_far = (x ∷ so_far.0, ap (λ ys. x ∷ ys) so_far.1)
+      one_more false x xs so_far = ([], refl)
+
+-- What is left without a prefix has the items that are left.
+module _ (form : EncodingForm) (has : ℕ → Bool) (us : List ℕ) where
+  items-skipped : items form (without_prefix form has us) ≡ skip_while (is_member has) (items form us)
+  items-skipped =
+      let left = skip_while (is_member has) (items form us) in
+      let some = skipped (is_member has) (items form us) in
+      items-of_chain form left (chain-back form some.0 left (subst (Chain form) some.1 (items-chain form us)))
+
+  pub ends-removed : without_suffix form has (without_prefix form has us) ≡ without_ends form has us
+  ends-removed = ap (λ is. units_of form (reverse (skip_while (is_member has) (reverse is)))) items-skipped
 
 module _ {C : Type 0} (form : EncodingForm) (number : C → ℕ) (has : ℕ → Bool) (us : List C) (at : ℕ) where
   pub prefix-removed : IsLongestPrefix form has true (map number us) at → map number (drop at us) ≡ without_prefix form has (map number us)

@@ -41,7 +41,7 @@ without_suffix form has us = units_of form (reverse (skip_while (is_member has) 
 
 -- The units without their longest prefix, and then without their longest suffix, of characters of a set.
 abbrev pub without_ends : EncodingForm → (ℕ → Bool) → List ℕ → List ℕ
-without_ends form has us = without_suffix form has (without_prefix form has us)
+without_ends form has us = units_of form (reverse (skip_while (is_member has) (reverse (skip_while (is_member has) (items form us)))))
 
 -- The numbers of the units of each substring between the characters of a set.
 abbrev pub substrings_between : EncodingForm → (ℕ → Bool) → List ℕ → List (List ℕ)

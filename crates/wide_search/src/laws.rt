@@ -2,6 +2,9 @@
 //! contract is the law.
 
 ghost use Rattle.std.specs.Prelude.{◌≡◌, ◌∷◌, []};
+ghost use Rattle.wide_forms.specs.EncodingForm.{Utf16};
+ghost use Rattle.wide_forms.specs.Items.{items};
+ghost use Rattle.wide_forms.specs.Segmentation.{Char, Fault};
 ghost use Rattle.wide_search.specs.Cut.{substrings};
 ghost use Rattle.wide_search.specs.Statements.{FirstIsUnique, LastIsUnique, SubstringsExist, SubstringsAreUnique, SubstringsJoin, WholeAtNoNeedle, NeedlesAreBetweenCharacters, NeedlesAreOfCharacters, FirstIsOfCharacters, LastIsOfCharacters};
 
@@ -39,4 +42,10 @@ pub fn worked_substrings()
     ensures half { substrings (0xDE00 ∷ []) (0xD83D ∷ 0xDE00 ∷ []) ≡ (0xD83D ∷ []) ∷ [] ∷ [] }
     ensures fields { substrings (0x3B ∷ []) (0x61 ∷ 0x3B ∷ 0x62 ∷ 0x3B ∷ []) ≡ (0x61 ∷ []) ∷ (0x62 ∷ []) ∷ [] ∷ [] }
     ensures alone { substrings (0x3B ∷ []) (0x3B ∷ []) ≡ [] ∷ [] ∷ [] }
+{}
+
+/// States a worked example, from which what is found of a set of characters can be computed: the items of a line with
+/// spaces of ASCII and others, and a surrogate that belongs to no pair.
+pub fn worked_line()
+    ensures { items Utf16 (0x20 ∷ 0xD800 ∷ 0x3000 ∷ 0x61 ∷ 0x20 ∷ []) ≡ Char 0x20 ∷ Fault 0xD800 ∷ Char 0x3000 ∷ Char 0x61 ∷ Char 0x20 ∷ [] }
 {}

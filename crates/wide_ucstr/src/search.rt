@@ -5,12 +5,13 @@ ghost use Rattle.wide_search.specs.Occurrences.{OccursIn, IsFirstAt, IsLastAt, O
 ghost use Rattle.wide_search.specs.Substrings.{AreSubstrings, joined_with};
 ghost use Rattle.wide_search.specs.Cut.{substrings};
 ghost use Rattle.wide_ustr.specs.Split.{unit_substrings_left, one_substrings_left, char_substrings_left};
+ghost use Rattle.wide_ustr.specs.SplitMore.{terminated, unit_terminated_left, char_terminated_left};
 ghost use Rattle.wide_ustr.specs.SplitN.{splitn, unit_splitn_left, one_splitn_left, char_splitn_left};
 ghost use Rattle.wide_ustr.specs.View.{units_seen};
 ghost use Rattle.wide_ucstr.specs.View.{contents_seen};
 
 use crate::view::UCStr;
-use wide_ustr::{OneUnit, Split, SplitN, UStr};
+use wide_ustr::{OneUnit, Split, SplitN, SplitTerminator, UStr};
 use wide_utferror::FaultUnit;
 
 impl<'a, C: FaultUnit> UCStr<'a, C> {
@@ -248,5 +249,46 @@ impl<'a, C: FaultUnit> UCStr<'a, C> {
         ensures fits { length (char_splitn_left C.form C.number result) < 2 ^ 64 }
     {
         self.as_ustr().splitn_char(count, c)
+    }
+
+    /// Returns an iterator over the substrings of the contents that an occurrence of the separator, without its NUL, or
+    /// their end ends, from the front, as views without a NUL. They are those of [`UCStr::split`], without the last one
+    /// if that is empty.
+    ///
+    /// # Example
+    ///
+    /// ```
+    /// let list = U16CStr::from_slice(&[0x61, 0x3b, 0x3b, 0])?;
+    /// let mut parts = list.split_terminator(U16CStr::from_slice(&[0x3b, 0])?);
+    /// assert!(rt; parts.next() == Some(U16Str::from_slice(&[0x61])));
+    /// assert!(rt; parts.next().is_some_and(|part| part.is_empty()));
+    /// assert!(rt; parts.next().is_none());
+    /// ```
+    pub fn split_terminator<'p>(
+        self,
+        needle: UCStr<'p, C>,
+    ) -> SplitTerminator<UStr<'a, C>, UStr<'p, C>>
+        ensures { unit_terminated_left C.number result ≡ terminated (substrings (map C.number (contents_seen needle.entry)) (map C.number (contents_seen self.entry))) }
+    {
+        self.as_ustr().split_terminator(needle.as_ustr())
+    }
+
+    /// Returns an iterator over the substrings of the contents that an occurrence of the character or their end ends,
+    /// from the front, as views without a NUL. They are those of [`UCStr::split_char`], without the last one if that is
+    /// empty.
+    ///
+    /// # Example
+    ///
+    /// ```
+    /// let list = U16CStr::from_slice(&[0x61, 0x3b, 0xd800, 0])?;
+    /// let mut parts = list.split_terminator_char(';');
+    /// assert!(rt; parts.next() == Some(U16Str::from_slice(&[0x61])));
+    /// assert!(rt; parts.next() == Some(U16Str::from_slice(&[0xd800])));
+    /// assert!(rt; parts.next().is_none());
+    /// ```
+    pub fn split_terminator_char(self, c: char) -> SplitTerminator<UStr<'a, C>, char>
+        ensures { char_terminated_left C.form C.number result ≡ terminated (substrings (code_units C.form c) (map C.number (contents_seen self.entry))) }
+    {
+        self.as_ustr().split_terminator_char(c)
     }
 }

@@ -5,8 +5,10 @@ use Rattle.wide_unit.specs.declared.unit.Unit.{Ghosts}
 use Rattle.wide_search.specs.Cut.{substrings}
 use Rattle.wide_ustr.specs.Split.{substrings_left}
 use Rattle.wide_ustr.specs.SplitN.{splitn_left}
+use Rattle.wide_ustr.specs.SplitMore.{terminated_left}
 use Rattle.wide_ustr.specs.declared.split.Split.{Split}
 use Rattle.wide_ustr.specs.declared.split_n.SplitN.{SplitN}
+use Rattle.wide_ustr.specs.declared.split_terminator.SplitTerminator.{SplitTerminator}
 use Rattle.wide_utfstr.specs.View.{numbers_seen}
 use Rattle.wide_utfstr.specs.declared.view.UtfStr.{UtfStr}
 
@@ -26,3 +28,11 @@ module _ {C : Type 0} {g : Ghosts C} where
   -- At most a number of the substrings of text that is split at a character.
   abbrev pub char_splitn_left : EncodingForm → (C → ℕ) → SplitN (UtfStr C g) ℕ → List (List ℕ)
   char_splitn_left form number s = splitn_left (numbers_seen number) (code_units form) s
+
+  -- The substrings of text that is split at a text, without an empty last one.
+  abbrev pub text_terminated_left : (C → ℕ) → SplitTerminator (UtfStr C g) (UtfStr C g) → List (List ℕ)
+  text_terminated_left number s = terminated_left (numbers_seen number) (λ needle. substrings (numbers_seen number needle)) s
+
+  -- The substrings of text that is split at a character, without an empty last one.
+  abbrev pub char_terminated_left : EncodingForm → (C → ℕ) → SplitTerminator (UtfStr C g) ℕ → List (List ℕ)
+  char_terminated_left form number s = terminated_left (numbers_seen number) (λ c. substrings (code_units form c)) s

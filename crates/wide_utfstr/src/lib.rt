@@ -12,6 +12,7 @@ mod lines;
 mod order;
 mod search;
 mod sets;
+mod split;
 mod text;
 mod trim;
 mod view;

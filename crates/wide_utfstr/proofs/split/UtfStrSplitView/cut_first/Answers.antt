@@ -2,7 +2,7 @@ use Rattle.std.proofs.lemmas.Option.{IfSome_then}
 use Rattle.wide_search.specs.Laws.Cuts.{substrings-empty, substrings-nowhere, substrings-split}
 use Rattle.wide_search.proofs.Offsets.{none-then, no-units, some-units}
 use Rattle.wide_utfstr.specs.View.{units_seen}
-use Rattle.wide_utfstr.proofs.search.UtfStrSplitView.cut_first.Goals as goal
+use Rattle.wide_utfstr.proofs.split.UtfStrSplitView.cut_first.Goals as goal
 
 pub returns-then-is_empty-clause-none : goal.returns-then-is_empty-clause-none
 returns-then-is_empty-clause-none g c = substrings-empty g.C.Unit.number g.met.C.Unit.same (units_seen c.args.needle) (units_seen c.args.self) (no-units (units_seen c.args.needle) c.if-is_empty.ensures)

@@ -3,7 +3,7 @@ use Rattle.wide_forms.specs.EncodingForm.{code_units}
 use Rattle.wide_forms.specs.Laws.Forms.{some_units}
 use Rattle.wide_search.specs.Laws.Cuts.{substrings-none, substrings-first, split-at}
 use Rattle.wide_utfstr.specs.View.{units_seen}
-use Rattle.wide_utfstr.proofs.search.UtfStrSplitViewChar.cut_first.Goals as goal
+use Rattle.wide_utfstr.proofs.split.UtfStrSplitViewChar.cut_first.Goals as goal
 
 pub returns-in_default-clause-none : goal.returns-in_default-clause-none
 returns-in_default-clause-none g c = substrings-none (code_units g.C.Unit.form c.args.c) (map g.C.Unit.number (units_seen c.args.self)) c.in_default.ensures.none
