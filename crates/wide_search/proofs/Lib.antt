@@ -12,3 +12,4 @@ mod Prefixes
 mod Single
 pub mod Members
 mod Lowercase
+mod Characters

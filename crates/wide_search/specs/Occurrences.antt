@@ -25,6 +25,16 @@ module _ {A : Type 0} where
     pub here : OccursAt needle whole at
     pub beyond : (later : ℕ) → at < later → ¬ (OccursAt needle whole later)
 
+  -- The needle occurs at the index, which is not before `from`, and at no index between the two.
+  pub record IsFirstFrom (needle whole : List A) (from at : ℕ) : Type 0 where
+    pub here : OccursAt needle whole at
+    pub after : from ≤ at
+    pub before : (earlier : ℕ) → from ≤ earlier → earlier < at → ¬ (OccursAt needle whole earlier)
+
+  -- The needle occurs at no index from `from` on.
+  abbrev pub OccursNowhereFrom : List A → List A → ℕ → Type 0
+  OccursNowhereFrom needle whole from = (at : ℕ) → from ≤ at → ¬ (OccursAt needle whole at)
+
   -- The list begins with the needle.
   abbrev pub BeginsWith : List A → List A → Type 0
   BeginsWith needle whole = (rest : List A) × (whole ≡ needle ++ rest)

@@ -2,7 +2,7 @@
 //! occurs, and what comes before it and after it. An empty needle occurs at each offset.
 
 ghost use Rattle.std.specs.Prelude.{◌≡◌, ◌↔◌, ◌+◌, ◌++◌, ◌∷◌, [], ◌≤◌, ◌<◌, length, IsTrue, IsSome, IfNone, IfSome};
-ghost use Rattle.wide_search.specs.Occurrences.{IsFirstAt, IsLastAt, OccursNowhere, BeginsWith, EndsWith, IsFirstSplit, IsLastSplit};
+ghost use Rattle.wide_search.specs.Occurrences.{IsFirstAt, IsFirstFrom, IsLastAt, OccursNowhere, OccursNowhereFrom, BeginsWith, EndsWith, IsFirstSplit, IsLastSplit};
 
 use crate::needle::Slice;
 use crate::one::{find_one, rfind_one};
@@ -68,6 +68,24 @@ pub fn find<C: Unit>(units: &[C], needle: &[C]) -> Option<usize>
     ensures within { IfSome result (λ at. at + length needle.now ≤ length units.now) }
 {
     find_in(units, Slice { units: needle })
+}
+
+/// Returns the offset in units of the first occurrence of the needle that begins at `from` or after it, or `None` if
+/// there is none. `from` is an offset in units; if it exceeds the length, there is none. An empty needle occurs at
+/// `from` itself. The offset that is returned is counted from the beginning of the units, not from `from`.
+pub fn find_from<C: Unit>(units: &[C], needle: &[C], from: usize) -> Option<usize>
+    ensures first { IfSome result (IsFirstFrom needle.now units.now from) }
+    ensures none { IfNone result (OccursNowhereFrom needle.now units.now from) }
+    ensures within { IfSome result (λ at. at + length needle.now ≤ length units.now) }
+{
+    if units.len() < from {
+        return None;
+    }
+    let (_, rest) = units.split_at(from);
+    let Some(at) = find(rest, needle) else {
+        return None;
+    };
+    Some(from + at)
 }
 
 /// Returns the offset in units of the last occurrence of the needle, or `None` if it does not occur. An empty needle

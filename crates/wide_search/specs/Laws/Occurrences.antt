@@ -1,8 +1,8 @@
 -- Occurrences of needles: the first one, and the substrings into which a list is split.
-use Rattle.std.proofs.Common.{◌≡◌, ◌⊎◌, ℕ, zero, suc, ◌+◌, ◌<◌, ◌≤◌, List, [], ◌∷◌, ◌++◌, inl, inr, refl, sym, ◌∙◌, ap, subst, arith, length, take, drop, length-drop}
+use Rattle.std.proofs.Common.{◌≡◌, ◌⊎◌, ℕ, zero, suc, ◌+◌, ◌-◌, ◌<◌, ◌≤◌, List, [], ◌∷◌, ◌++◌, inl, inr, refl, sym, ◌∙◌, ap, subst, arith, length, take, drop, length-drop}
 use Rattle.std.proofs.lemmas.List.{take-append-drop, length-take-le, drop-drop}
 use Rattle.std.proofs.lemmas.Bool.{cases_eq, cases_lt}
-use Rattle.wide_search.specs.Occurrences.{OccursAt, OccursNowhere, IsFirstAt, IsLastAt}
+use Rattle.wide_search.specs.Occurrences.{OccursAt, OccursNowhere, OccursNowhereFrom, IsFirstAt, IsFirstFrom, IsLastAt}
 use Rattle.wide_search.specs.Substrings.{AreSubstrings, joined_with}
 
 module _ {A : Type 0} where
@@ -49,6 +49,26 @@ module _ {A : Type 0} where
   occurs-left needle (x ∷ xs) (suc n) at occurs =
       let e : suc n + at ≡ suc (n + at) = omega arith in
       occurs-left needle xs n at (occurs-back needle x xs (n + at) (subst (λ k. OccursAt needle (x ∷ xs) k) e occurs))
+
+  -- The first occurrence in a list without its first `from` elements is the first one in the list from there on.
+  pub first-from : (needle whole : List A) (from at : ℕ) → from ≤ length whole → IsFirstAt needle (drop from whole) at → IsFirstFrom needle whole from (from + at)
+  first-from needle whole from at within first = record {
+    here = occurs-beyond needle whole from at within first.here;
+    after = omega arith;
+    before = λ earlier l below occurs.
+        let same : earlier ≡ from + (earlier - from) = omega (arith, l) in
+        first.before (earlier - from) (omega (arith, l, below)) (occurs-left needle whole from (earlier - from) (subst (λ k. OccursAt needle whole k) same occurs));
+  }
+
+  -- A needle that does not occur in a list without its first `from` elements occurs at no index of the list from there on.
+  pub nowhere-from : (needle whole : List A) (from : ℕ) → OccursNowhere needle (drop from whole) → OccursNowhereFrom needle whole from
+  nowhere-from needle whole from nowhere at l occurs =
+      let same : at ≡ from + (at - from) = omega (arith, l) in
+      nowhere (at - from) (occurs-left needle whole from (at - from) (subst (λ k. OccursAt needle whole k) same occurs))
+
+  -- A needle occurs at no index beyond the end of a list.
+  pub nowhere-beyond : (needle whole : List A) (from : ℕ) → length whole < from → OccursNowhereFrom needle whole from
+  nowhere-beyond needle whole from long at l occurs = omega (arith, long, l, occurs.within)
 
   -- A list is what is before an occurrence, the needle, and what follows it.
   pub parted : (needle whole : List A) (at : ℕ) → OccursAt needle whole at → whole ≡ take at whole ++ (needle ++ drop (at + length needle) whole)
