@@ -12,4 +12,4 @@ mod Prefixes
 mod Single
 pub mod Members
 mod Lowercase
-mod Characters
+pub mod Characters

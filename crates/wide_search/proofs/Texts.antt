@@ -13,7 +13,7 @@ use Rattle.wide_forms.specs.Laws.Offsets.{IsBoundary-start}
 use Rattle.wide_forms.specs.Laws.Ends.{IsWellFormed-code_units}
 use Rattle.wide_forms.specs.Laws.Forms.{some_units}
 use Rattle.wide_unit.proofs.CharBoundaries.{IsCharBoundary-of}
-use Rattle.wide_search.specs.Occurrences.{OccursAt, IsFirstAt, IsLastAt, BeginsWith, EndsWith}
+use Rattle.wide_search.specs.Occurrences.{OccursAt, IsFirstAt, IsFirstFrom, IsLastAt, BeginsWith, EndsWith}
 use Rattle.wide_search.specs.Laws.Ends.{IsBoundary-needle, IsBoundary-after_needle}
 use Rattle.wide_search.specs.Laws.Numbers.{occurs-numbers}
 
@@ -28,6 +28,13 @@ last-empty us at last = elim (cases_lt at (length us)) [
   | inr rest ↦ omega (arith, rest, last.here.within)
 ]
 
+-- An empty needle occurs at the offset from which on it is looked for.
+from-empty : {X : Type 0} (us : List X) (from at : ℕ) → IsFirstFrom [] us from at → at ≡ from
+from-empty us from at first = elim (cases_lt from at) [
+  | inl below ↦ absurd (first.before from (omega arith) below (record { within = omega (arith, below, first.here.within); same = refl }))
+  | inr rest ↦ omega (arith, rest, first.after)
+]
+
 module _ {X : Type 0} (form : EncodingForm) (number : X → ℕ) where
   -- The offset of the needle, and the offset after it.
   abbrev pub Ends : List X → List X → ℕ → Type 0
@@ -37,7 +44,8 @@ module _ {X : Type 0} (form : EncodingForm) (number : X → ℕ) where
     seen : (at : ℕ) → IsBoundary form (map number us) at → IsCharBoundary form (map number us) at
     seen at b = IsCharBoundary-of form (map number us) at well b
 
-    ends-some : (needle : List X) (at : ℕ) → IsWellFormed form (map number needle) → 0 < length needle → OccursAt needle us at → Ends needle us at
+    -- Both ends of a needle that has units are boundaries.
+    pub ends-some : (needle : List X) (at : ℕ) → IsWellFormed form (map number needle) → 0 < length needle → OccursAt needle us at → Ends needle us at
     ends-some needle at well_needle some occurs =
         let there = occurs-numbers number needle us at occurs in
         let more : 0 < length (map number needle) = omega (arith, some, length-map needle number) in (
@@ -52,6 +60,14 @@ module _ {X : Type 0} (form : EncodingForm) (number : X → ℕ) where
     pub first-ends : (needle : List X) (at : ℕ) → IsWellFormed form (map number needle) → IsFirstAt needle us at → Ends needle us at
     first-ends [] at well_needle first = ends-none at (subst (λ n. IsBoundary form (map number us) n) (sym (first-empty us at first)) (IsBoundary-start form (map number us)))
     first-ends (x ∷ xs) at well_needle first = ends-some (x ∷ xs) at well_needle (omega arith) first.here
+
+    -- Both ends of the first occurrence from a boundary on are boundaries.
+    pub from-ends : (needle : List X) (from at : ℕ) → IsWellFormed form (map number needle) → IsCharBoundary form (map number us) from → IsFirstFrom needle us from at → Ends needle us at
+    from-ends [] from at well_needle b first =
+        let here : from ≡ at = sym (from-empty us from at first) in
+        let end : from ≡ at + 0 = omega (arith, here) in
+        (subst (λ n. IsCharBoundary form (map number us) n) here b, subst (λ n. IsCharBoundary form (map number us) n) end b)
+    from-ends (x ∷ xs) from at well_needle b first = ends-some (x ∷ xs) at well_needle (omega arith) first.here
 
     -- Both ends of the last occurrence are boundaries.
     pub last-ends : (needle : List X) (at : ℕ) → IsWellFormed form (map number needle) → IsLastAt needle us at → Ends needle us at

@@ -3,6 +3,7 @@
 
 mod ascii;
 mod bytes;
+mod characters;
 mod display;
 mod escaped;
 mod iter;
