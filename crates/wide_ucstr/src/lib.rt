@@ -4,6 +4,7 @@
 #![tactic(auto)]
 
 mod ascii;
+mod characters;
 mod compare;
 mod display;
 pub mod laws;
