@@ -11,19 +11,26 @@ mod files;
 mod from_slice;
 mod hints;
 mod items;
+mod kinds;
 mod lossy;
+mod made;
+mod names;
+mod nocase;
 mod offsets;
 mod policies;
 mod prints;
 mod replaced;
 mod searches;
+mod sets;
 mod splits;
+mod terminated;
 mod texts;
 mod units;
 mod views;
 mod walks;
 mod width;
 
+use sets::SetCalls;
 use std::alloc::Global;
 use widestring::Policy;
 use widestring::iter::End;
@@ -34,72 +41,6 @@ use width::Width;
 
 /// Decoders, encoders, views with their iterators, conversions, searches and devices.
 pub struct ViewSuite;
-
-// The groups, in the order in which they are printed.
-static GROUPS: [&str; 51] = [
-    "items16",
-    "items32",
-    "lossy16",
-    "lossy32",
-    "offsets16",
-    "offsets32",
-    "from_slice16",
-    "from_slice32",
-    "encode8",
-    "encode16",
-    "encode32",
-    "hints16",
-    "hints32",
-    "hints_lossy16",
-    "hints_lossy32",
-    "hints_encode8",
-    "hints_encode16",
-    "texts16",
-    "texts32",
-    "views16",
-    "views32",
-    "walks16",
-    "walks32",
-    "prints16",
-    "prints32",
-    "compare16",
-    "compare32",
-    "units16",
-    "units32",
-    "bytes16",
-    "bytes32",
-    "files",
-    "lossy_text16",
-    "lossy_text32",
-    "to_string16",
-    "to_string32",
-    "each16",
-    "run16",
-    "skip16",
-    "each32",
-    "run32",
-    "skip32",
-    "transcode",
-    "searches16",
-    "searches32",
-    "case16",
-    "case32",
-    "replaced16",
-    "replaced32",
-    "splits16",
-    "splits32",
-];
-
-// The groups with corrected answers, and the crate's faults.
-static FAULTS: [(&str, &str); 7] = [
-    ("from_slice16", "utf16-error-index"),
-    ("to_string16", "utf16-error-index"),
-    ("hints16", "utf16-hint-held"),
-    ("hints_lossy16", "utf16-hint-held"),
-    ("hints_encode8", "utf8-encoder-hint-held"),
-    ("hints_encode16", "utf16-encoder-hint-held"),
-    ("lossy_text16", "from-slice-lossy-inside-a-pair"),
-];
 
 // The groups whose lists are characters.
 #[derive(Clone, Copy)]
@@ -160,10 +101,13 @@ enum OfUnits {
     Case,
     Replaced,
     Splits,
+    Nocase,
+    Terminated,
+    Sets(SetCalls),
     Decoded(Decoder),
 }
 
-static OF_UNITS: [(&str, OfUnits); 22] = [
+static OF_UNITS: [(&str, OfUnits); 27] = [
     ("items", OfUnits::Decoded(Decoder::Strict)),
     ("lossy", OfUnits::Decoded(Decoder::Lossy)),
     ("hints_lossy", OfUnits::Decoded(Decoder::LossyHints)),
@@ -186,15 +130,20 @@ static OF_UNITS: [(&str, OfUnits); 22] = [
     ("case", OfUnits::Case),
     ("replaced", OfUnits::Replaced),
     ("splits", OfUnits::Splits),
+    ("nocase", OfUnits::Nocase),
+    ("sets", OfUnits::Sets(SetCalls::Substrings)),
+    ("words", OfUnits::Sets(SetCalls::Words)),
+    ("trims", OfUnits::Sets(SetCalls::Trims)),
+    ("terminated", OfUnits::Terminated),
 ];
 
 impl Suite for ViewSuite {
     fn groups() -> &'static [&'static str] {
-        &GROUPS
+        &names::GROUPS
     }
 
     fn faults() -> &'static [(&'static str, &'static str)] {
-        &FAULTS
+        &names::FAULTS
     }
 
     fn answer(memory: Memory<'_>, answer: &mut Answer, group: &str, list: &str, question: &str) {
@@ -301,6 +250,9 @@ fn with_units<C: Width>(
         OfUnits::Case => case::asked(memory, answer, units, question),
         OfUnits::Replaced => replaced::asked(memory, answer, units, question),
         OfUnits::Splits => splits::asked(memory, answer, units, question),
+        OfUnits::Nocase => nocase::asked(memory, answer, units, question),
+        OfUnits::Terminated => terminated::asked(memory, answer, units, question),
+        OfUnits::Sets(calls) => sets::asked(memory, answer, calls, units, question),
         OfUnits::Decoded(decoder) => decoded(memory, answer, decoder, units, question),
     }
 }

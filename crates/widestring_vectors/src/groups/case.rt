@@ -1,22 +1,22 @@
 //! ASCII in units of either width, and the order of text by code points. A question is the letter of a view, as in
-//! `views.rt`, a word for the call, and the units of another list, if there are two: `u lower`, `t order 61 62`.
+//! `kinds.rt`, a word for the call, and the units of another list, if there are two: `u lower`, `t order 61 62`.
 //!
 //! - `ascii` is whether all units are ASCII, and `same` whether both lists are the same without regard to the case of
 //!   ASCII letters: `1` or `0`.
 //! - `lower` and `upper` are the units of a new string with its ASCII letters in that case. It makes one request for
 //!   memory, and none if it has no units; else the answer has a `?`.
 //! - `order` is the order of two texts by the code points of their characters: `<`, `=` or `>`.
+use crate::groups::kinds::{self, Kind};
+use crate::groups::made;
 use crate::groups::width::{Width, as_contents, as_text};
-use widestring::error::OutOfMemory;
 use widestring::ucstr::UCStr;
-use widestring::ucstring::{UCStrInUcstring, UCString};
+use widestring::ucstring::UCStrInUcstring;
 use widestring::ustr::UStr;
-use widestring::ustring::{UStrInUstring, UString};
+use widestring::ustring::UStrInUstring;
 use widestring::utfstr::UtfStr;
-use widestring::utfstring::{UtfStrInUtfstring, UtfString};
+use widestring::utfstring::UtfStrInUtfstring;
 use widestring_replay::parse::{self, Memory, NoAnswer};
 use widestring_replay::show::Answer;
-use widestring_testing::Heap;
 
 // The calls.
 #[derive(Clone, Copy)]
@@ -36,61 +36,6 @@ static CALLS: [(&str, Call); 5] = [
     ("order", Call::Order),
 ];
 
-// The views.
-#[derive(Clone, Copy)]
-enum Kind {
-    Units,
-    Text,
-    Contents,
-}
-
-static KINDS: [(&str, Kind); 3] = [("u", Kind::Units), ("t", Kind::Text), ("c", Kind::Contents)];
-
-// Adds the units of a new string, and before them a `?` if it made another number of requests than one, or than none
-// for no units.
-fn add<C: Width>(memory: Memory<'_>, answer: &mut Answer, left: u64, units: &[C], is_made: bool) {
-    if memory.requests_since(left) != u64::from(is_made) {
-        answer.word("?");
-    }
-    answer.units(units);
-}
-
-fn units_made<C: Width>(
-    memory: Memory<'_>,
-    answer: &mut Answer,
-    left: u64,
-    made: Result<UString<C, &Heap>, OutOfMemory>,
-) {
-    match made {
-        Ok(string) => add(memory, answer, left, string.as_slice(), !string.is_empty()),
-        Err(_) => answer.fail(NoAnswer::OutOfMemory),
-    }
-}
-
-fn text_made<C: Width>(
-    memory: Memory<'_>,
-    answer: &mut Answer,
-    left: u64,
-    made: Result<UtfString<C, &Heap>, OutOfMemory>,
-) {
-    match made {
-        Ok(string) => add(memory, answer, left, string.as_slice(), !string.is_empty()),
-        Err(_) => answer.fail(NoAnswer::OutOfMemory),
-    }
-}
-
-fn contents_made<C: Width>(
-    memory: Memory<'_>,
-    answer: &mut Answer,
-    left: u64,
-    made: Result<UCString<C, &Heap>, OutOfMemory>,
-) {
-    match made {
-        Ok(string) => add(memory, answer, left, string.as_ucstr().as_slice(), true),
-        Err(_) => answer.fail(NoAnswer::OutOfMemory),
-    }
-}
-
 fn of_units<C: Width>(
     memory: Memory<'_>,
     answer: &mut Answer,
@@ -102,8 +47,8 @@ fn of_units<C: Width>(
     match call {
         Call::Ascii => answer.decided(view.is_ascii()),
         Call::Same => answer.decided(view.eq_ignore_ascii_case(other)),
-        Call::Lower => units_made(memory, answer, left, view.to_ascii_lowercase(heap)),
-        Call::Upper => units_made(memory, answer, left, view.to_ascii_uppercase(heap)),
+        Call::Lower => made::units(memory, answer, left, view.to_ascii_lowercase(heap)),
+        Call::Upper => made::units(memory, answer, left, view.to_ascii_uppercase(heap)),
         Call::Order => answer.fail(NoAnswer::Unparsed),
     }
 }
@@ -119,8 +64,8 @@ fn of_text<C: Width>(
     match call {
         Call::Ascii => answer.decided(text.is_ascii()),
         Call::Same => answer.decided(text.eq_ignore_ascii_case(other)),
-        Call::Lower => text_made(memory, answer, left, text.to_ascii_lowercase(heap)),
-        Call::Upper => text_made(memory, answer, left, text.to_ascii_uppercase(heap)),
+        Call::Lower => made::text(memory, answer, left, text.to_ascii_lowercase(heap)),
+        Call::Upper => made::text(memory, answer, left, text.to_ascii_uppercase(heap)),
         Call::Order => answer.order(text.cmp_code_points(other)),
     }
 }
@@ -136,8 +81,8 @@ fn of_contents<C: Width>(
     match call {
         Call::Ascii => answer.decided(view.is_ascii()),
         Call::Same => answer.decided(view.eq_ignore_ascii_case(other)),
-        Call::Lower => contents_made(memory, answer, left, view.to_ascii_lowercase(heap)),
-        Call::Upper => contents_made(memory, answer, left, view.to_ascii_uppercase(heap)),
+        Call::Lower => made::contents(memory, answer, left, view.to_ascii_lowercase(heap)),
+        Call::Upper => made::contents(memory, answer, left, view.to_ascii_uppercase(heap)),
         Call::Order => answer.fail(NoAnswer::Unparsed),
     }
 }
@@ -169,13 +114,9 @@ fn of_kind<C: Width>(
 
 // Splits a question into its view, its call, and the units of the other list.
 fn parsed(question: &str) -> Result<(Kind, Call, &str), NoAnswer> {
-    let (kind, rest) = parse::word(question);
+    let (kind, rest) = kinds::parsed(question)?;
     let (call, list) = parse::word(rest);
-    Ok((
-        parse::named(&KINDS, kind)?,
-        parse::named(&CALLS, call)?,
-        list,
-    ))
+    Ok((kind, parse::named(&CALLS, call)?, list))
 }
 
 fn with_list<C: Width>(

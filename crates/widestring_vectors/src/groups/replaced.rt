@@ -5,16 +5,13 @@
 //! The view is units (`u`), or the text of the units, in which the needle is a text (`t`) or a character (`c`). The
 //! answer has the units of the new string. It makes one request for memory, and none if it has no units; else the
 //! answer has a `?`.
+use crate::groups::made;
 use crate::groups::width::{Width, as_text};
-use widestring::error::OutOfMemory;
 use widestring::replace::{UStrReplace, UtfStrReplace};
 use widestring::ustr::UStr;
-use widestring::ustring::UString;
 use widestring::utfstr::UtfStr;
-use widestring::utfstring::UtfString;
 use widestring_replay::parse::{self, Memory, NoAnswer};
 use widestring_replay::show::Answer;
-use widestring_testing::Heap;
 
 // The needles.
 #[derive(Clone, Copy)]
@@ -30,39 +27,6 @@ static KINDS: [(&str, Kind); 3] = [("u", Kind::Units), ("t", Kind::Text), ("c", 
 // or `None` for all.
 type Parts<'q> = (Kind, &'q str, &'q str, Option<usize>);
 
-// Adds the units of a new string, and before them a `?` if it made another number of requests than one, or than none
-// for no units.
-fn add<C: Width>(memory: Memory<'_>, answer: &mut Answer, left: u64, units: &[C]) {
-    if memory.requests_since(left) != u64::from(!units.is_empty()) {
-        answer.word("?");
-    }
-    answer.units(units);
-}
-
-fn units_made<C: Width>(
-    memory: Memory<'_>,
-    answer: &mut Answer,
-    left: u64,
-    made: Result<UString<C, &Heap>, OutOfMemory>,
-) {
-    match made {
-        Ok(string) => add(memory, answer, left, string.as_slice()),
-        Err(_) => answer.fail(NoAnswer::OutOfMemory),
-    }
-}
-
-fn text_made<C: Width>(
-    memory: Memory<'_>,
-    answer: &mut Answer,
-    left: u64,
-    made: Result<UtfString<C, &Heap>, OutOfMemory>,
-) {
-    match made {
-        Ok(string) => add(memory, answer, left, string.as_slice()),
-        Err(_) => answer.fail(NoAnswer::OutOfMemory),
-    }
-}
-
 fn in_units<C: Width>(
     memory: Memory<'_>,
     answer: &mut Answer,
@@ -76,7 +40,7 @@ fn in_units<C: Width>(
         None => view.replace(heap, needle, with),
         Some(count) => view.replacen(heap, needle, with, count),
     };
-    units_made(memory, answer, left, made);
+    made::units(memory, answer, left, made);
 }
 
 fn in_text<C: Width>(
@@ -92,7 +56,7 @@ fn in_text<C: Width>(
         None => text.replace(heap, needle, with),
         Some(count) => text.replacen(heap, needle, with, count),
     };
-    text_made(memory, answer, left, made);
+    made::text(memory, answer, left, made);
 }
 
 fn char_in_text<C: Width>(
@@ -108,7 +72,7 @@ fn char_in_text<C: Width>(
         None => text.replace(heap, c, with),
         Some(count) => text.replacen(heap, c, with, count),
     };
-    text_made(memory, answer, left, made);
+    made::text(memory, answer, left, made);
 }
 
 // Replaces a text, or any units.

@@ -1,25 +1,17 @@
-//! Substrings of units, of text and of the contents of C strings. A question is the letter of a view, as in `views.rt`,
+//! Substrings of units, of text and of the contents of C strings. A question is the letter of a view, as in `kinds.rt`,
 //! a space, a letter for the separator, a space, the separator, a colon, and the greatest number of substrings, or a
 //! `-` if there is no limit: `u o 3B:2`, `t c 1F600:-`.
 //!
 //! The separator is a view of the same kind (`v`), one unit (`o`), or a character (`c`). The answer is how many
 //! substrings there are, and as further fields the units of each.
+use crate::groups::answers::substrings;
+use crate::groups::kinds::{self, Kind};
 use crate::groups::width::{Width, as_contents, as_text};
 use widestring::ucstr::UCStr;
 use widestring::ustr::UStr;
 use widestring::utfstr::UtfStr;
 use widestring_replay::parse::{self, Memory, NoAnswer};
 use widestring_replay::show::Answer;
-
-// The views.
-#[derive(Clone, Copy)]
-enum Kind {
-    Units,
-    Text,
-    Contents,
-}
-
-static KINDS: [(&str, Kind); 3] = [("u", Kind::Units), ("t", Kind::Text), ("c", Kind::Contents)];
 
 // The separators.
 #[derive(Clone, Copy)]
@@ -33,18 +25,6 @@ static SEPARATORS: [(&str, By); 3] = [("v", By::View), ("o", By::Unit), ("c", By
 
 // A parsed question: the view, the separator's kind, the separator, and the greatest number of substrings.
 type Parts<'q> = (Kind, By, &'q str, Option<usize>);
-
-// Adds how many substrings there are, and the units of each. It makes the iterator twice, since one that holds a unit of
-// any width can't be copied by this macro.
-macro_rules! substrings {
-    ($answer:expr, $substrings:expr) => {{
-        $answer.count(Some($substrings.count()));
-        for substring in $substrings {
-            $answer.part();
-            $answer.units(substring.as_slice());
-        }
-    }};
-}
 
 fn units_at_units<C: Width>(
     answer: &mut Answer,
@@ -206,11 +186,11 @@ fn most_of(count: &str) -> Result<Option<usize>, NoAnswer> {
 }
 
 fn parsed(question: &str) -> Result<Parts<'_>, NoAnswer> {
-    let (kind, rest) = parse::word(question);
+    let (kind, rest) = kinds::parsed(question)?;
     let (by, rest) = parse::word(rest);
     let (separator, most) = parse::parts(rest)?;
     Ok((
-        parse::named(&KINDS, kind)?,
+        kind,
         parse::named(&SEPARATORS, by)?,
         separator,
         most_of(most)?,
