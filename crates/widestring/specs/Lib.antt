@@ -18,6 +18,7 @@ pub use Rattle.wide_unit.specs.CommonPrefix
 pub use Rattle.wide_forms.specs.Statements
 pub use Rattle.wide_search.specs.Occurrences
 pub use Rattle.wide_search.specs.Lowercased
+pub use Rattle.wide_search.specs.Sets
 pub use Rattle.wide_search.specs.Substrings as SearchSubstrings
 pub use Rattle.wide_search.specs.Cut as SearchCut
 pub use Rattle.wide_search.specs.Statements as SearchStatements
@@ -49,6 +50,8 @@ pub use Rattle.wide_ustr.specs.Lines as LinesLeft
 pub use Rattle.wide_ustr.specs.LineIndices
 pub use Rattle.wide_ustr.specs.Split
 pub use Rattle.wide_ustr.specs.SplitN
+pub use Rattle.wide_ustr.specs.SplitMore
+pub use Rattle.wide_ustr.specs.Sets as UnitSets
 pub use Rattle.wide_ustr.specs.Printed
 pub use Rattle.wide_ustring.specs.Units
 pub use Rattle.wide_ustring.specs.CowUnits
@@ -66,6 +69,7 @@ pub use Rattle.wide_ucstring.specs.Rejected
 pub use Rattle.wide_utfstr.specs.View
 pub use Rattle.wide_utfstr.specs.Iter
 pub use Rattle.wide_utfstr.specs.Split as TextSplit
+pub use Rattle.wide_utfstr.specs.Sets as TextSets
 pub use Rattle.wide_utfstr.specs.Boundaries
 pub use Rattle.wide_utfstr.specs.Indexed
 pub use Rattle.wide_utfstr.specs.Trim

@@ -15,6 +15,7 @@ pub mod examples_decoders;
 pub mod examples_faults;
 pub mod examples_printing;
 pub mod examples_replaced;
+pub mod examples_sets;
 pub mod examples_split;
 pub mod examples_strings;
 pub mod examples_substrings;
