@@ -3,6 +3,7 @@
 
 mod ascii;
 mod boundaries;
+mod characters;
 mod compare;
 mod compared_units;
 mod display;
