@@ -11,3 +11,4 @@ mod Escaped
 mod Displayed
 mod Ordered
 mod Lowercase
+mod StrTexts

@@ -19,6 +19,11 @@ cmp-skip : (ps xs ys : List ℕ) → slice_cmp nat_cmp (ps ++ xs) (ps ++ ys) ≡
 cmp-skip [] xs ys = refl
 cmp-skip (p ∷ ps) xs ys = same_number p (slice_cmp nat_cmp (ps ++ xs) (ps ++ ys)) ∙ cmp-skip ps xs ys
 
+-- Lists that begin with the same element are in the order of what follows it.
+pub cmp-more : (xs ys left rest : List ℕ) (x y : ℕ) → xs ≡ x ∷ left → ys ≡ y ∷ rest → x ≡ y → slice_cmp nat_cmp xs ys ≡ slice_cmp nat_cmp left rest
+cmp-more xs ys left rest x y first other same =
+    ap (λ zs. slice_cmp nat_cmp zs ys) first ∙ ap (slice_cmp nat_cmp (x ∷ left)) (other ∙ ap (λ z. z ∷ rest) (sym same)) ∙ same_number x (slice_cmp nat_cmp left rest)
+
 module _ {X : Type 0} (number : X → ℕ) (form : EncodingForm) where
   abbrev pub text : List X → List ℕ
   text us = chars form (map number us)

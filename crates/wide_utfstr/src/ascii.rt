@@ -2,10 +2,11 @@
 //! the case of its letters.
 ghost use Rattle.std.specs.Prelude.{◌≡◌, ◌↔◌, ◌+◌, ◌≤◌, length, map, IsTrue, IsAscii, IfNone, IfSome};
 ghost use Rattle.std.specs.Char.{to_ascii_lowercase};
+ghost use Rattle.std.specs.Str.{chars as str_chars};
 ghost use Rattle.wide_forms.specs.Offsets.{IsCharBoundary};
 ghost use Rattle.wide_search.specs.Lowercased.{lowercased};
 ghost use Rattle.wide_search.specs.Occurrences.{OccursIn, IsFirstAt, OccursNowhere, BeginsWith, EndsWith};
-ghost use Rattle.wide_utfstr.specs.View.{units_seen, numbers_seen};
+ghost use Rattle.wide_utfstr.specs.View.{units_seen, numbers_seen, text_seen};
 
 use crate::view::UtfStr;
 use wide_unit::Unit;
@@ -39,6 +40,31 @@ impl<C: Unit> UtfStr<'_, C> {
         ensures { IsTrue result ↔ (map to_ascii_lowercase (numbers_seen C.number self.entry) ≡ map to_ascii_lowercase (numbers_seen C.number other.entry)) }
     {
         wide_ascii::eq_ignore_ascii_case(self.as_slice(), other.as_slice())
+    }
+
+    /// Returns whether the text is that of the `&str` without regard to the case of ASCII letters. A letter past ASCII
+    /// differs from the one in the other case. It reads both once, up to the first difference, and does not allocate.
+    ///
+    /// # Example
+    ///
+    /// ```
+    /// let text = Utf16String::from_str(rt.alloc(), "Größe")?;
+    /// assert!(rt; text.as_utfstr().eq_str_ignore_ascii_case("GRößE"));
+    /// assert!(rt; !text.as_utfstr().eq_str_ignore_ascii_case("GRÖSSE"));
+    /// ```
+    pub fn eq_str_ignore_ascii_case(self, text: &str) -> bool
+        ensures { IsTrue result ↔ (map to_ascii_lowercase (text_seen self.entry) ≡ map to_ascii_lowercase (str_chars text.now)) }
+    {
+        let mut theirs = text.chars();
+        for c in self.chars() {
+            let Some(d) = theirs.next() else {
+                return false;
+            };
+            if !c.eq_ignore_ascii_case(&d) {
+                return false;
+            }
+        }
+        theirs.next().is_none()
     }
 
     /// Returns whether the view begins with the needle, without regard to the case of ASCII letters. It does if the

@@ -2,6 +2,7 @@
 ghost use Rattle.std.specs.Prelude.{◌≡◌};
 ghost use Rattle.std.specs.Cmp.Lexicographic.{slice_cmp};
 ghost use Rattle.std.specs.Ordering.{nat_cmp};
+ghost use Rattle.std.specs.Str.{chars as str_chars};
 ghost use Rattle.wide_utfstr.specs.View.{text_seen};
 
 use crate::view::UtfStr;
@@ -55,5 +56,38 @@ impl<C: Unit> UtfStr<'_, C> {
         let (_, ours) = self.split_at(at);
         let (_, theirs) = other.split_at(at);
         compare_chars(ours, theirs)
+    }
+
+    /// Compares the text with a `&str` by the code points of their characters, as two `&str` are compared. It reads both
+    /// once, up to the first difference, and does not allocate.
+    ///
+    /// # Example
+    ///
+    /// ```
+    /// use std::cmp::Ordering;
+    ///
+    /// let text = Utf16Str::from_slice(&[0x61, 0xd83d, 0xde00])?;
+    /// assert!(rt; text.cmp_str("a😀") == Ordering::Equal);
+    /// assert!(rt; text.cmp_str("aＡ") == Ordering::Greater);
+    /// assert!(rt; text.cmp_str("a😀!") == Ordering::Less);
+    /// ```
+    pub fn cmp_str(self, text: &str) -> Ordering
+        ensures { result ≡ slice_cmp nat_cmp (text_seen self.entry) (str_chars text.now) }
+    {
+        let mut theirs = text.chars();
+        for c in self.chars() {
+            match theirs.next() {
+                None => return Ordering::Greater,
+                Some(d) => {
+                    if c != d {
+                        return c.cmp(&d);
+                    }
+                }
+            }
+        }
+        match theirs.next() {
+            None => Ordering::Equal,
+            Some(_) => Ordering::Less,
+        }
     }
 }
