@@ -12,6 +12,7 @@ mod moves;
 mod space;
 mod ustring;
 mod view;
+mod within;
 
 pub use boxed::{BoxedU16Str, BoxedU32Str, BoxedUStr};
 pub use cow::{CowU16Str, CowU32Str, CowUStr};

@@ -1,5 +1,5 @@
 //! Edits of a vector of units, in place. Each edit allocates before it moves a unit.
-ghost use Rattle.std.specs.Prelude.{◌≡◌, ◌+◌, ◌-◌, ◌<◌, ◌≤◌, ◌++◌, length, map, take, drop, IsOk, OnOk, OnErr, vec_len, vec_capacity};
+ghost use Rattle.std.specs.Prelude.{◌≡◌, ◌+◌, ◌-◌, ◌<◌, ◌≤◌, ◌++◌, length, map, take, drop, slice_range, IsOk, OnOk, OnErr, vec_len, vec_capacity};
 ghost use Rattle.std.specs.List.{splice, remove_range, copy_within};
 ghost use Rattle.std.specs.Str.{chars};
 ghost use Rattle.wide_forms.specs.EncodingForm.{code_units, encode};
@@ -158,6 +158,27 @@ pub(crate) fn push_str<C: Unit, A: Allocator>(
     units.reserve(more)?;
     units.resize(len + more, C::NUL)?;
     write_str(units.slice_mut(len..), text);
+    Ok(())
+}
+
+// Appends a copy of the units from `from` up to `to`.
+pub(crate) fn push_within<C: Unit, A: Allocator>(
+    units: &mut Vec<C, A>,
+    from: usize,
+    to: usize,
+) -> Result<(), OutOfMemory>
+    requires forward { from ≤ to }
+    requires within { to ≤ vec_len units.old }
+    ensures ok { OnOk result (units.new.items ≡ units.old.items ++ slice_range units.old.items from to) }
+    ensures err { OnErr result ((units.new.items ≡ units.old.items) × (vec_capacity units.new ≡ vec_capacity units.old)) }
+    ensures succeeds { vec_len units.old + (to - from) ≤ vec_capacity units.old → IsOk result }
+    ensures capacity { vec_capacity units.old ≤ vec_capacity units.new }
+{
+    let len = units.len();
+    let more = to - from;
+    units.reserve(more)?;
+    units.resize(len + more, C::NUL)?;
+    move_within(units.as_mut_slice(), from, to, len);
     Ok(())
 }
 
