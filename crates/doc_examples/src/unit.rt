@@ -1,7 +1,10 @@
 //! The examples of `widestring::unit`.
 use std::test::Fail;
 use widestring::U16Str;
-use widestring::unit::{AnyUnits, FirstFault, Policy, Unit, check, common_prefix, first_nul};
+use widestring::unit::{
+    AnyUnits, FirstFault, Policy, Unit, ascii_lowercase, ascii_uppercase, check, common_prefix,
+    common_prefix_ignore_ascii_case, first_nul,
+};
 
 #[test]
 fn example_of_unit(rt: HostRuntime) -> Result<(), Fail> {
@@ -59,5 +62,26 @@ fn example_of_first_nul(rt: HostRuntime) -> Result<(), Fail> {
 fn example_of_common_prefix(rt: HostRuntime) -> Result<(), Fail> {
     let shared = common_prefix(&[0x61u16, 0x62, 0x63], &[0x61, 0x62, 0x64, 0x65]);
     assert!(rt; shared == 2);
+    Ok(())
+}
+
+#[test]
+fn example_of_ascii_lowercase(rt: HostRuntime) -> Result<(), Fail> {
+    assert!(rt; ascii_lowercase(0x4b) == 0x6b);
+    assert!(rt; ascii_lowercase(0xc4) == 0xc4);
+    Ok(())
+}
+
+#[test]
+fn example_of_ascii_uppercase(rt: HostRuntime) -> Result<(), Fail> {
+    assert!(rt; ascii_uppercase(0x6b) == 0x4b);
+    assert!(rt; ascii_uppercase(0xe4) == 0xe4);
+    Ok(())
+}
+
+#[test]
+fn example_of_common_prefix_ignore_ascii_case(rt: HostRuntime) -> Result<(), Fail> {
+    let shared = common_prefix_ignore_ascii_case(&[0x4bu16, 0xe4], &[0x6b, 0xc4]);
+    assert!(rt; shared == 1);
     Ok(())
 }

@@ -1,7 +1,7 @@
 //! The examples of `widestring::ustr`.
 use std::test::Fail;
 use widestring::error::{DecodeUtf16Error, Utf16ConvertError, Utf32ConvertError};
-use widestring::ustr::{LineView, OneUnit, SplitView, U16Str, U32Str};
+use widestring::ustr::{AnyOf, LineView, OneUnit, SplitView, U16Str, U32Str};
 use widestring::{Policy, U16String};
 
 #[test]
@@ -187,6 +187,39 @@ fn example_of_ustr_eq_ignore_ascii_case(rt: HostRuntime) -> Result<(), Fail> {
 }
 
 #[test]
+fn example_of_ustr_starts_with_ignore_ascii_case(rt: HostRuntime) -> Result<(), Fail> {
+    let key = U16String::from_str(rt.alloc(), "HKLM\\Software")?;
+    let root = U16Str::from_slice(&[0x68, 0x6b, 0x6c, 0x6d]);
+    assert!(rt; key.as_ustr().starts_with_ignore_ascii_case(root));
+    Ok(())
+}
+
+#[test]
+fn example_of_ustr_ends_with_ignore_ascii_case(rt: HostRuntime) -> Result<(), Fail> {
+    let file = U16String::from_str(rt.alloc(), "NOTES.TXT")?;
+    let extension = U16Str::from_slice(&[0x2e, 0x74, 0x78, 0x74]);
+    assert!(rt; file.as_ustr().ends_with_ignore_ascii_case(extension));
+    Ok(())
+}
+
+#[test]
+fn example_of_ustr_contains_ignore_ascii_case(rt: HostRuntime) -> Result<(), Fail> {
+    let key = U16String::from_str(rt.alloc(), "HKLM\\SOFTWARE")?;
+    let name = U16Str::from_slice(&[0x53, 0x6f, 0x66, 0x74]);
+    assert!(rt; key.as_ustr().contains_ignore_ascii_case(name));
+    Ok(())
+}
+
+#[test]
+fn example_of_ustr_find_ignore_ascii_case(rt: HostRuntime) -> Result<(), Fail> {
+    let key = U16String::from_str(rt.alloc(), "HKLM\\SOFTWARE")?;
+    let name = U16Str::from_slice(&[0x53, 0x6f, 0x66, 0x74]);
+    assert!(rt; key.as_ustr().find_ignore_ascii_case(name) == Some(5));
+    assert!(rt; name.find_ignore_ascii_case(key.as_ustr()).is_none());
+    Ok(())
+}
+
+#[test]
 fn example_of_ustr_to_le_bytes(rt: HostRuntime) -> Result<(), Fail> {
     let bytes = U16Str::from_slice(&[0x48, 0x20ac]).to_le_bytes(rt.alloc())?;
     assert!(rt; bytes.as_slice() == [0x48, 0, 0xac, 0x20].as_slice());
@@ -227,6 +260,139 @@ fn example_of_ustr_put_le_bytes(rt: HostRuntime) -> Result<(), Fail> {
 }
 
 #[test]
+fn example_of_ustr_starts_with_char(rt: HostRuntime) -> Result<(), Fail> {
+    let text = U16Str::from_slice(&[0xd83d, 0xde00, 0x21]);
+    assert!(rt; text.starts_with_char('😀'));
+    assert!(rt; !U16Str::from_slice(&[0xd83d, 0x21]).starts_with_char('😀'));
+    Ok(())
+}
+
+#[test]
+fn example_of_ustr_ends_with_char(rt: HostRuntime) -> Result<(), Fail> {
+    let text = U16Str::from_slice(&[0x21, 0xd83d, 0xde00]);
+    assert!(rt; text.ends_with_char('😀'));
+    assert!(rt; !U16Str::from_slice(&[0x21, 0xde00]).ends_with_char('😀'));
+    Ok(())
+}
+
+#[test]
+fn example_of_ustr_strip_prefix_char(rt: HostRuntime) -> Result<(), Fail> {
+    let path = U16Str::from_slice(&[0x5c, 0xd800]);
+    assert!(rt; path.strip_prefix_char('\\') == Some(U16Str::from_slice(&[0xd800])));
+    assert!(rt; path.strip_prefix_char('/').is_none());
+    Ok(())
+}
+
+#[test]
+fn example_of_ustr_strip_suffix_char(rt: HostRuntime) -> Result<(), Fail> {
+    let path = U16Str::from_slice(&[0xd800, 0x5c]);
+    assert!(rt; path.strip_suffix_char('\\') == Some(U16Str::from_slice(&[0xd800])));
+    assert!(rt; path.strip_suffix_char('/').is_none());
+    Ok(())
+}
+
+#[test]
+fn example_of_ustr_find_from(rt: HostRuntime) -> Result<(), Fail> {
+    let path = U16Str::from_slice(&[0x61, 0x5c, 0x62, 0x5c]);
+    let separator = U16Str::from_slice(&[0x5c]);
+    assert!(rt; path.find_from(separator, 1) == Some(1));
+    assert!(rt; path.find_from(separator, 2) == Some(3));
+    assert!(rt; path.find_from(separator, 4).is_none());
+    Ok(())
+}
+
+#[test]
+fn example_of_ustr_find_char_from(rt: HostRuntime) -> Result<(), Fail> {
+    let path = U16Str::from_slice(&[0x61, 0x5c, 0xd800, 0x5c]);
+    assert!(rt; path.find_char_from('\\', 1) == Some(1));
+    assert!(rt; path.find_char_from('\\', 2) == Some(3));
+    assert!(rt; path.find_char_from('\\', 9).is_none());
+    Ok(())
+}
+
+#[test]
+fn example_of_ustr_find_any(rt: HostRuntime) -> Result<(), Fail> {
+    let path = U16Str::from_slice(&[0x61, 0xd800, 0x2f, 0x62]);
+    let separators: &[char] = &['\\', '/'];
+    assert!(rt; path.find_any(separators) == Some(2));
+    Ok(())
+}
+
+#[test]
+fn example_of_ustr_split_any(rt: HostRuntime) -> Result<(), Fail> {
+    let list = U16Str::from_slice(&[0x61, 0x2c, 0xd800, 0x3b]);
+    let separators: &[char] = &[',', ';'];
+    let mut parts = list.split_any(separators);
+    assert!(rt; parts.next() == Some(U16Str::from_slice(&[0x61])));
+    assert!(rt; parts.next() == Some(U16Str::from_slice(&[0xd800])));
+    assert!(rt; parts.next().is_some_and(|part| part.is_empty()));
+    assert!(rt; parts.next().is_none());
+    Ok(())
+}
+
+#[test]
+fn example_of_ustr_split_whitespace(rt: HostRuntime) -> Result<(), Fail> {
+    let line = U16Str::from_slice(&[0x20, 0x61, 0x3000, 0x9, 0xd800]);
+    let mut words = line.split_whitespace();
+    assert!(rt; words.next() == Some(U16Str::from_slice(&[0x61])));
+    assert!(rt; words.next() == Some(U16Str::from_slice(&[0xd800])));
+    assert!(rt; words.next().is_none());
+    Ok(())
+}
+
+#[test]
+fn example_of_ustr_split_ascii_whitespace(rt: HostRuntime) -> Result<(), Fail> {
+    let line = U16Str::from_slice(&[0x61, 0x3000, 0x20, 0x20, 0x62]);
+    let mut words = line.split_ascii_whitespace();
+    assert!(rt; words.next() == Some(U16Str::from_slice(&[0x61, 0x3000])));
+    assert!(rt; words.next() == Some(U16Str::from_slice(&[0x62])));
+    assert!(rt; words.next().is_none());
+    Ok(())
+}
+
+#[test]
+fn example_of_ustr_trim_start_matches(rt: HostRuntime) -> Result<(), Fail> {
+    let number = U16Str::from_slice(&[0x30, 0x30, 0x37, 0x30]);
+    assert!(rt; number.trim_start_matches('0') == U16Str::from_slice(&[0x37, 0x30]));
+    Ok(())
+}
+
+#[test]
+fn example_of_ustr_trim_end_matches(rt: HostRuntime) -> Result<(), Fail> {
+    let folder = U16Str::from_slice(&[0x2f, 0x61, 0x2f, 0x2f]);
+    assert!(rt; folder.trim_end_matches('/') == U16Str::from_slice(&[0x2f, 0x61]));
+    Ok(())
+}
+
+#[test]
+fn example_of_ustr_trim_matches(rt: HostRuntime) -> Result<(), Fail> {
+    let quoted = U16Str::from_slice(&[0x22, 0xd800, 0x22]);
+    assert!(rt; quoted.trim_matches('"') == U16Str::from_slice(&[0xd800]));
+    Ok(())
+}
+
+#[test]
+fn example_of_ustr_trim_start(rt: HostRuntime) -> Result<(), Fail> {
+    let value = U16Str::from_slice(&[0x3000, 0x20, 0xd800, 0x20]);
+    assert!(rt; value.trim_start() == U16Str::from_slice(&[0xd800, 0x20]));
+    Ok(())
+}
+
+#[test]
+fn example_of_ustr_trim_end(rt: HostRuntime) -> Result<(), Fail> {
+    let line = U16Str::from_slice(&[0x20, 0xd800, 0xd, 0xa]);
+    assert!(rt; line.trim_end() == U16Str::from_slice(&[0x20, 0xd800]));
+    Ok(())
+}
+
+#[test]
+fn example_of_ustr_trim(rt: HostRuntime) -> Result<(), Fail> {
+    let value = U16Str::from_slice(&[0x9, 0xd800, 0x20, 0x61, 0x20]);
+    assert!(rt; value.trim() == U16Str::from_slice(&[0xd800, 0x20, 0x61]));
+    Ok(())
+}
+
+#[test]
 fn example_of_ustr_splitn(rt: HostRuntime) -> Result<(), Fail> {
     let setting = U16Str::from_slice(&[0x61, 0x3d, 0x62, 0x3d, 0x63]);
     let mut parts = setting.splitn(2, U16Str::from_slice(&[0x3d]));
@@ -252,6 +418,26 @@ fn example_of_ustr_splitn_char(rt: HostRuntime) -> Result<(), Fail> {
     let mut parts = text.splitn_char(2, '😀');
     assert!(rt; parts.next() == Some(U16Str::from_slice(&[0x61])));
     assert!(rt; parts.next() == Some(U16Str::from_slice(&[0xd83d, 0xde00])));
+    assert!(rt; parts.next().is_none());
+    Ok(())
+}
+
+#[test]
+fn example_of_ustr_split_terminator(rt: HostRuntime) -> Result<(), Fail> {
+    let list = U16Str::from_slice(&[0x61, 0x3b, 0x3b]);
+    let mut parts = list.split_terminator(U16Str::from_slice(&[0x3b]));
+    assert!(rt; parts.next() == Some(U16Str::from_slice(&[0x61])));
+    assert!(rt; parts.next().is_some_and(|part| part.is_empty()));
+    assert!(rt; parts.next().is_none());
+    Ok(())
+}
+
+#[test]
+fn example_of_ustr_split_terminator_char(rt: HostRuntime) -> Result<(), Fail> {
+    let list = U16Str::from_slice(&[0x61, 0x3b, 0xd800]);
+    let mut parts = list.split_terminator_char(';');
+    assert!(rt; parts.next() == Some(U16Str::from_slice(&[0x61])));
+    assert!(rt; parts.next() == Some(U16Str::from_slice(&[0xd800])));
     assert!(rt; parts.next().is_none());
     Ok(())
 }
@@ -366,9 +552,33 @@ fn example_of_displayskipping(rt: HostRuntime) -> Result<(), Fail> {
 }
 
 #[test]
+fn example_of_anyof(rt: HostRuntime) -> Result<(), Fail> {
+    let setting = U16Str::from_slice(&[0x78, 0x3a, 0x31]);
+    let separators: &[char] = &['=', ':'];
+    let parts = setting.cut_first(AnyOf { set: separators });
+    assert!(rt; parts.is_some_and(|(name, value)| name.len() == 1 && value.len() == 1));
+    Ok(())
+}
+
+#[test]
+fn example_of_splitfilled(rt: HostRuntime) -> Result<(), Fail> {
+    let line = U16Str::from_slice(&[0x20, 0x61, 0x9, 0x20, 0x62]);
+    assert!(rt; line.split_whitespace().count() == 2);
+    Ok(())
+}
+
+#[test]
 fn example_of_splitn(rt: HostRuntime) -> Result<(), Fail> {
     let setting = U16Str::from_slice(&[0x61, 0x3d, 0x62, 0x3d]);
     let parts = setting.splitn(2, U16Str::from_slice(&[0x3d]));
     assert!(rt; parts.last().is_some_and(|value| value.len() == 2));
+    Ok(())
+}
+
+#[test]
+fn example_of_splitterminator(rt: HostRuntime) -> Result<(), Fail> {
+    let list = U16Str::from_slice(&[0x61, 0x3b, 0x62, 0x3b]);
+    let parts = list.split_terminator(U16Str::from_slice(&[0x3b]));
+    assert!(rt; parts.count() == 2);
     Ok(())
 }

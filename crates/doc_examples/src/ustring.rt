@@ -127,6 +127,14 @@ fn example_of_ustring_from_iter_ustrs(rt: HostRuntime) -> Result<(), Fail> {
 }
 
 #[test]
+fn example_of_ustring_extend_from_within(rt: HostRuntime) -> Result<(), Fail> {
+    let mut string = U16String::from_vec([0x61, 0xd83d, 0xde00].to_vec(rt.alloc())?);
+    string.extend_from_within(..2)?;
+    assert!(rt; string.as_slice() == [0x61, 0xd83d, 0xde00, 0x61, 0xd83d].as_slice());
+    Ok(())
+}
+
+#[test]
 fn example_of_cowustr(rt: HostRuntime) -> Result<(), Fail> {
     let cow = CowU16Str::Borrowed(U16Str::from_slice(&[0x48, 0xd83d]));
     let mut string = cow.into_owned(rt.alloc())?;

@@ -246,6 +246,203 @@ fn example_of_utfstr_rsplit_once(rt: HostRuntime) -> Result<(), Fail> {
 }
 
 #[test]
+fn example_of_utfstr_is_ascii(rt: HostRuntime) -> Result<(), Fail> {
+    let name = Utf16String::from_str(rt.alloc(), "Name")?;
+    assert!(rt; name.as_utfstr().is_ascii());
+    Ok(())
+}
+
+#[test]
+fn example_of_utfstr_eq_ignore_ascii_case(rt: HostRuntime) -> Result<(), Fail> {
+    let first = Utf16String::from_str(rt.alloc(), "Größe")?;
+    let second = Utf16String::from_str(rt.alloc(), "GRößE")?;
+    assert!(rt; first.as_utfstr().eq_ignore_ascii_case(second.as_utfstr()));
+    Ok(())
+}
+
+#[test]
+fn example_of_utfstr_eq_str_ignore_ascii_case(rt: HostRuntime) -> Result<(), Fail> {
+    let text = Utf16String::from_str(rt.alloc(), "Größe")?;
+    assert!(rt; text.as_utfstr().eq_str_ignore_ascii_case("GRößE"));
+    assert!(rt; !text.as_utfstr().eq_str_ignore_ascii_case("GRÖSSE"));
+    Ok(())
+}
+
+#[test]
+fn example_of_utfstr_starts_with_ignore_ascii_case(rt: HostRuntime) -> Result<(), Fail> {
+    let key = Utf16String::from_str(rt.alloc(), "HKLM\\Größe")?;
+    let root = Utf16String::from_str(rt.alloc(), "hklm\\g")?;
+    assert!(rt; key.as_utfstr().starts_with_ignore_ascii_case(root.as_utfstr()));
+    Ok(())
+}
+
+#[test]
+fn example_of_utfstr_ends_with_ignore_ascii_case(rt: HostRuntime) -> Result<(), Fail> {
+    let file = Utf16String::from_str(rt.alloc(), "Größe.TXT")?;
+    let extension = Utf16String::from_str(rt.alloc(), ".txt")?;
+    assert!(rt; file.as_utfstr().ends_with_ignore_ascii_case(extension.as_utfstr()));
+    Ok(())
+}
+
+#[test]
+fn example_of_utfstr_contains_ignore_ascii_case(rt: HostRuntime) -> Result<(), Fail> {
+    let name = Utf16String::from_str(rt.alloc(), "Größe.TXT")?;
+    let part = Utf16String::from_str(rt.alloc(), "E.t")?;
+    assert!(rt; name.as_utfstr().contains_ignore_ascii_case(part.as_utfstr()));
+    Ok(())
+}
+
+#[test]
+fn example_of_utfstr_find_ignore_ascii_case(rt: HostRuntime) -> Result<(), Fail> {
+    let file = Utf16String::from_str(rt.alloc(), "Größe.TXT")?;
+    let extension = Utf16String::from_str(rt.alloc(), ".txt")?;
+    let at = file.as_utfstr().find_ignore_ascii_case(extension.as_utfstr());
+    assert!(rt; at == Some(5));
+    assert!(rt; extension.as_utfstr().find_ignore_ascii_case(file.as_utfstr()).is_none());
+    Ok(())
+}
+
+#[test]
+fn example_of_utfstr_starts_with_char(rt: HostRuntime) -> Result<(), Fail> {
+    let text = Utf16Str::from_slice(&[0xd83d, 0xde00, 0x21])?;
+    assert!(rt; text.starts_with_char('😀'));
+    assert!(rt; !text.starts_with_char('!'));
+    Ok(())
+}
+
+#[test]
+fn example_of_utfstr_ends_with_char(rt: HostRuntime) -> Result<(), Fail> {
+    let text = Utf16Str::from_slice(&[0x21, 0xd83d, 0xde00])?;
+    assert!(rt; text.ends_with_char('😀'));
+    assert!(rt; !text.ends_with_char('!'));
+    Ok(())
+}
+
+#[test]
+fn example_of_utfstr_strip_prefix_char(rt: HostRuntime) -> Result<(), Fail> {
+    let text = Utf16Str::from_slice(&[0xd83d, 0xde00, 0x21])?;
+    let rest = text.strip_prefix_char('😀');
+    assert!(rt; rest.is_some_and(|rest| rest.eq_str("!")));
+    assert!(rt; text.strip_prefix_char('!').is_none());
+    Ok(())
+}
+
+#[test]
+fn example_of_utfstr_strip_suffix_char(rt: HostRuntime) -> Result<(), Fail> {
+    let text = Utf16Str::from_slice(&[0x21, 0xd83d, 0xde00])?;
+    let prefix = text.strip_suffix_char('😀');
+    assert!(rt; prefix.is_some_and(|prefix| prefix.eq_str("!")));
+    assert!(rt; text.strip_suffix_char('!').is_none());
+    Ok(())
+}
+
+#[test]
+fn example_of_utfstr_find_from(rt: HostRuntime) -> Result<(), Fail> {
+    let text = Utf16Str::from_slice(&[0xe9, 0x2c, 0xd83d, 0xde00, 0x2c])?;
+    let comma = Utf16Str::from_slice(&[0x2c])?;
+    assert!(rt; text.find_from(comma, 1) == Some(1));
+    assert!(rt; text.find_from(comma, 2) == Some(4));
+    assert!(rt; text.find_from(comma, 5).is_none());
+    Ok(())
+}
+
+#[test]
+fn example_of_utfstr_find_char_from(rt: HostRuntime) -> Result<(), Fail> {
+    let text = Utf16Str::from_slice(&[0xd83d, 0xde00, 0x21, 0xd83d, 0xde00])?;
+    assert!(rt; text.find_char_from('😀', 0) == Some(0));
+    assert!(rt; text.find_char_from('😀', 1) == Some(3));
+    assert!(rt; text.find_char_from('😀', 4).is_none());
+    Ok(())
+}
+
+#[test]
+fn example_of_utfstr_eq_str(rt: HostRuntime) -> Result<(), Fail> {
+    let text = Utf16Str::from_slice(&[0x64, 0xe9, 0x6a, 0xe0])?;
+    assert!(rt; text.eq_str("déjà"));
+    assert!(rt; !text.eq_str("de\u{301}ja\u{300}"));
+    Ok(())
+}
+
+#[test]
+fn example_of_utfstr_cmp_code_points(rt: HostRuntime) -> Result<(), Fail> {
+    let emoji = Utf16Str::from_slice(&[0x61, 0xd83d, 0xde00])?;
+    let letter = Utf16Str::from_slice(&[0x61, 0xff21])?;
+    assert!(rt; emoji < letter);
+    assert!(rt; emoji.cmp_code_points(letter) == Ordering::Greater);
+    Ok(())
+}
+
+#[test]
+fn example_of_utfstr_cmp_str(rt: HostRuntime) -> Result<(), Fail> {
+    let text = Utf16Str::from_slice(&[0x61, 0xd83d, 0xde00])?;
+    assert!(rt; text.cmp_str("a😀") == Ordering::Equal);
+    assert!(rt; text.cmp_str("aＡ") == Ordering::Greater);
+    assert!(rt; text.cmp_str("a😀!") == Ordering::Less);
+    Ok(())
+}
+
+#[test]
+fn example_of_utfstr_find_any(rt: HostRuntime) -> Result<(), Fail> {
+    let path = Utf16Str::from_slice(&[0xd83d, 0xde00, 0x2f, 0x62])?;
+    let separators: &[char] = &['\\', '/'];
+    assert!(rt; path.find_any(separators) == Some(2));
+    Ok(())
+}
+
+#[test]
+fn example_of_utfstr_split_any(rt: HostRuntime) -> Result<(), Fail> {
+    let list = Utf16Str::from_slice(&[0xe9, 0x2c, 0xd83d, 0xde00, 0x3b])?;
+    let separators: &[char] = &[',', ';'];
+    let mut parts = list.split_any(separators);
+    assert!(rt; parts.next().is_some_and(|part| part.eq_str("é")));
+    assert!(rt; parts.next().is_some_and(|part| part.eq_str("😀")));
+    assert!(rt; parts.next().is_some_and(|part| part.is_empty()));
+    assert!(rt; parts.next().is_none());
+    Ok(())
+}
+
+#[test]
+fn example_of_utfstr_split_whitespace(rt: HostRuntime) -> Result<(), Fail> {
+    let line = Utf16Str::from_slice(&[0x20, 0xe9, 0x3000, 0x9, 0xd83d, 0xde00])?;
+    let mut words = line.split_whitespace();
+    assert!(rt; words.next().is_some_and(|word| word.eq_str("é")));
+    assert!(rt; words.next().is_some_and(|word| word.eq_str("😀")));
+    assert!(rt; words.next().is_none());
+    Ok(())
+}
+
+#[test]
+fn example_of_utfstr_split_ascii_whitespace(rt: HostRuntime) -> Result<(), Fail> {
+    let line = Utf16Str::from_slice(&[0x61, 0x3000, 0x20, 0x20, 0x62])?;
+    let mut words = line.split_ascii_whitespace();
+    assert!(rt; words.next().is_some_and(|word| word.len() == 2));
+    assert!(rt; words.next().is_some_and(|word| word.eq_str("b")));
+    assert!(rt; words.next().is_none());
+    Ok(())
+}
+
+#[test]
+fn example_of_utfstr_trim_start_matches(rt: HostRuntime) -> Result<(), Fail> {
+    let number = Utf16Str::from_slice(&[0x30, 0x30, 0x37, 0x30])?;
+    assert!(rt; number.trim_start_matches('0').eq_str("70"));
+    Ok(())
+}
+
+#[test]
+fn example_of_utfstr_trim_end_matches(rt: HostRuntime) -> Result<(), Fail> {
+    let folder = Utf16Str::from_slice(&[0x2f, 0xe9, 0x2f, 0x2f])?;
+    assert!(rt; folder.trim_end_matches('/').eq_str("/é"));
+    Ok(())
+}
+
+#[test]
+fn example_of_utfstr_trim_matches(rt: HostRuntime) -> Result<(), Fail> {
+    let quoted = Utf16Str::from_slice(&[0x22, 0xd83d, 0xde00, 0x22])?;
+    assert!(rt; quoted.trim_matches('"').eq_str("😀"));
+    Ok(())
+}
+
+#[test]
 fn example_of_utfstr_split(rt: HostRuntime) -> Result<(), Fail> {
     let list = Utf16Str::from_slice(&[0xe9, 0x2c, 0x20, 0xd83d, 0xde00])?;
     let mut parts = list.split(Utf16Str::from_slice(&[0x2c, 0x20])?);
@@ -286,34 +483,22 @@ fn example_of_utfstr_splitn_char(rt: HostRuntime) -> Result<(), Fail> {
 }
 
 #[test]
-fn example_of_utfstr_is_ascii(rt: HostRuntime) -> Result<(), Fail> {
-    let name = Utf16String::from_str(rt.alloc(), "Name")?;
-    assert!(rt; name.as_utfstr().is_ascii());
+fn example_of_utfstr_split_terminator(rt: HostRuntime) -> Result<(), Fail> {
+    let list = Utf16Str::from_slice(&[0xe9, 0x3b, 0x3b])?;
+    let mut parts = list.split_terminator(Utf16Str::from_slice(&[0x3b])?);
+    assert!(rt; parts.next().is_some_and(|part| part.eq_str("é")));
+    assert!(rt; parts.next().is_some_and(|part| part.is_empty()));
+    assert!(rt; parts.next().is_none());
     Ok(())
 }
 
 #[test]
-fn example_of_utfstr_eq_ignore_ascii_case(rt: HostRuntime) -> Result<(), Fail> {
-    let first = Utf16String::from_str(rt.alloc(), "Größe")?;
-    let second = Utf16String::from_str(rt.alloc(), "GRößE")?;
-    assert!(rt; first.as_utfstr().eq_ignore_ascii_case(second.as_utfstr()));
-    Ok(())
-}
-
-#[test]
-fn example_of_utfstr_eq_str(rt: HostRuntime) -> Result<(), Fail> {
-    let text = Utf16Str::from_slice(&[0x64, 0xe9, 0x6a, 0xe0])?;
-    assert!(rt; text.eq_str("déjà"));
-    assert!(rt; !text.eq_str("de\u{301}ja\u{300}"));
-    Ok(())
-}
-
-#[test]
-fn example_of_utfstr_cmp_code_points(rt: HostRuntime) -> Result<(), Fail> {
-    let emoji = Utf16Str::from_slice(&[0x61, 0xd83d, 0xde00])?;
-    let letter = Utf16Str::from_slice(&[0x61, 0xff21])?;
-    assert!(rt; emoji < letter);
-    assert!(rt; emoji.cmp_code_points(letter) == Ordering::Greater);
+fn example_of_utfstr_split_terminator_char(rt: HostRuntime) -> Result<(), Fail> {
+    let list = Utf16Str::from_slice(&[0xe9, 0x3b, 0x62])?;
+    let mut parts = list.split_terminator_char(';');
+    assert!(rt; parts.next().is_some_and(|part| part.eq_str("é")));
+    assert!(rt; parts.next().is_some_and(|part| part.eq_str("b")));
+    assert!(rt; parts.next().is_none());
     Ok(())
 }
 

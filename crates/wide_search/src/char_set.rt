@@ -8,6 +8,16 @@ ghost use Rattle.wide_search.specs.Sets.{is_among};
 /// type of your own that says which characters it contains.
 ///
 /// The Rust crate has no such trait. No call of a set allocates or fails.
+///
+/// # Example
+///
+/// ```
+/// use widestring::search::CharSet;
+///
+/// let signs: &[char] = &['=', ':'];
+/// assert!(rt; signs.contains_char(':'));
+/// assert!(rt; !'='.contains_char(':'));
+/// ```
 pub trait CharSet: Copy {
     // Whether a scalar value is in the set.
     ghost has: { Self → ℕ → Bool };
@@ -18,6 +28,15 @@ pub trait CharSet: Copy {
 }
 
 /// The characters with the property White_Space (Unicode Character Database), those of [`char::is_whitespace`].
+///
+/// # Example
+///
+/// ```
+/// use widestring::search::WhiteSpace;
+///
+/// let line = Utf16Str::from_slice(&[0xe9, 0x3000, 0x61])?;
+/// assert!(rt; line.find_any(WhiteSpace) == Some(1));
+/// ```
 #[derive(Clone, Copy, Debug)]
 pub struct WhiteSpace;
 
@@ -31,6 +50,15 @@ impl CharSet for WhiteSpace {
 
 /// The white space of ASCII, as [`char::is_ascii_whitespace`] has it: space, tab, line feed, form feed and carriage
 /// return.
+///
+/// # Example
+///
+/// ```
+/// use widestring::search::AsciiWhiteSpace;
+///
+/// let line = Utf16Str::from_slice(&[0xe9, 0x3000, 0x20])?;
+/// assert!(rt; line.find_any(AsciiWhiteSpace) == Some(2));
+/// ```
 #[derive(Clone, Copy, Debug)]
 pub struct AsciiWhiteSpace;
 

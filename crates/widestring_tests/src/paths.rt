@@ -51,14 +51,17 @@ pub mod replace {
 
 pub mod search {
     pub use widestring::search::{
-        ends_with, find, find_char, find_unit, rfind, rfind_char, rfind_unit, rsplit_once,
-        split_once, starts_with, strip_prefix, strip_suffix,
+        AsciiWhiteSpace, CharSet, WhiteSpace, ends_with, ends_with_char,
+        ends_with_ignore_ascii_case, find, find_char, find_char_from, find_from,
+        find_ignore_ascii_case, find_in_set, find_unit, prefix_of_set, rfind, rfind_char,
+        rfind_unit, rsplit_once, split_once, starts_with, starts_with_char,
+        starts_with_ignore_ascii_case, strip_prefix, strip_suffix, suffix_of_set,
     };
 }
 
 pub mod search_laws {
     pub use widestring::search::laws::{
-        needles_in_text, one_list_of_substrings, one_offset, worked_substrings,
+        needles_in_text, one_list_of_substrings, one_offset, worked_line, worked_substrings,
     };
 }
 
@@ -89,10 +92,11 @@ pub mod ucstring {
 
 pub mod unit {
     pub use widestring::unit::{
-        AnyUnits, FirstFault, LossyProgress, Policy, Unit, char_of, check, common_prefix,
-        find_fault, first_no_scalar, first_nul, first_of, first_surrogate, length_as_utf16,
-        length_as_utf32, next_code_point, order_of_units, put_char, range_check, same_units,
-        split_first, split_last, split_line, valid_len, write_escape,
+        AnyUnits, FirstFault, LossyProgress, Policy, Unit, ascii_lowercase, ascii_uppercase,
+        char_of, check, common_prefix, common_prefix_ignore_ascii_case, find_fault,
+        first_no_scalar, first_nul, first_of, first_surrogate, length_as_utf16, length_as_utf32,
+        next_code_point, order_of_units, put_char, range_check, same_units, split_first,
+        split_last, split_line, valid_len, write_escape,
     };
 }
 
@@ -108,11 +112,11 @@ pub mod unit_laws {
 
 pub mod ustr {
     pub use widestring::ustr::{
-        CharIndices, CharIndicesLossy, CharIndicesLossyUtf16, CharIndicesLossyUtf32,
+        AnyOf, CharIndices, CharIndicesLossy, CharIndicesLossyUtf16, CharIndicesLossyUtf32,
         CharIndicesUtf16, CharIndicesUtf32, Chars, CharsLossy, CharsLossyUtf16, CharsLossyUtf32,
         CharsLossyWith, CharsUtf16, CharsUtf32, Display, DisplaySkipping, LineIndices, LineView,
-        Lines, OneUnit, Split, SplitN, SplitView, U16Str, U32Str, UStr, WideChar, WideStr,
-        after_faults,
+        Lines, NeedleView, OneUnit, Split, SplitFilled, SplitN, SplitTerminator, SplitView, U16Str,
+        U32Str, UStr, WideChar, WideStr, after_faults,
     };
 }
 
