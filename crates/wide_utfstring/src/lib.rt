@@ -14,6 +14,7 @@ mod iter;
 mod lossy;
 mod utfstring;
 mod view;
+mod within;
 
 pub use boxed::{BoxedUtf16Str, BoxedUtf32Str, BoxedUtfStr};
 pub use cow::{CowUtf16Str, CowUtf32Str, CowUtfStr};
