@@ -13,6 +13,8 @@ mod iter;
 #[cfg(test)]
 mod replace;
 #[cfg(test)]
+mod search;
+#[cfg(test)]
 mod ucstr;
 #[cfg(test)]
 mod ucstring;

@@ -215,6 +215,16 @@ fn example_of_utfstring_from_iter_chars(rt: HostRuntime) -> Result<(), Fail> {
 }
 
 #[test]
+fn example_of_utfstring_extend_from_within(rt: HostRuntime) -> Result<(), Fail> {
+    let mut text = Utf16String::from_str(rt.alloc(), "é😀!")?;
+    if let Some(at) = text.as_utfstr().find_char('😀') {
+        text.extend_from_within(at..)?;
+    }
+    assert!(rt; text.as_utfstr().eq_str("é😀!😀!"));
+    Ok(())
+}
+
+#[test]
 fn example_of_cowutfstr(rt: HostRuntime) -> Result<(), Fail> {
     let cow = Utf16String::from_slice_lossy(rt.alloc(), &[0x48, 0x69, 0xdc00])?;
     let mut text = cow.into_owned(rt.alloc())?;

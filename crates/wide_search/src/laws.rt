@@ -1,11 +1,12 @@
 //! The laws of occurrences and of the substrings between them. Each law is a function that does nothing, and its
 //! contract is the law.
 
-ghost use Rattle.std.specs.Prelude.{◌≡◌, ◌∷◌, []};
+ghost use Rattle.std.specs.Prelude.{◌≡◌, ◌∷◌, [], ℕ};
 ghost use Rattle.wide_forms.specs.EncodingForm.{Utf16};
 ghost use Rattle.wide_forms.specs.Items.{items};
 ghost use Rattle.wide_forms.specs.Segmentation.{Char, Fault};
 ghost use Rattle.wide_search.specs.Cut.{substrings};
+ghost use Rattle.wide_search.specs.Occurrences.{BeginsWith, EndsWith, IsFirstFrom};
 ghost use Rattle.wide_search.specs.Statements.{FirstIsUnique, LastIsUnique, SubstringsExist, SubstringsAreUnique, SubstringsJoin, WholeAtNoNeedle, NeedlesAreBetweenCharacters, NeedlesAreOfCharacters, FirstIsOfCharacters, LastIsOfCharacters};
 
 /// States that a needle has at most one first occurrence in a list, and at most one last one.
@@ -48,4 +49,14 @@ pub fn worked_substrings()
 /// spaces of ASCII and others, and a surrogate that belongs to no pair.
 pub fn worked_line()
     ensures { items Utf16 (0x20 ∷ 0xD800 ∷ 0x3000 ∷ 0x61 ∷ 0x20 ∷ []) ≡ Char 0x20 ∷ Fault 0xD800 ∷ Char 0x3000 ∷ Char 0x61 ∷ Char 0x20 ∷ [] }
+{}
+
+/// States worked examples: UTF-16 and UTF-32 that begin and end with an emoji, and the first backslash in units from an
+/// offset on, where one is before that offset too.
+pub fn worked_occurrences()
+    ensures begins { BeginsWith {A = ℕ} (0xD83D ∷ 0xDE00 ∷ []) (0xD83D ∷ 0xDE00 ∷ 0x21 ∷ []) }
+    ensures begins32 { BeginsWith {A = ℕ} (0x1_F600 ∷ []) (0x1_F600 ∷ 0x21 ∷ []) }
+    ensures ends { EndsWith {A = ℕ} (0xD83D ∷ 0xDE00 ∷ []) (0x21 ∷ 0xD83D ∷ 0xDE00 ∷ []) }
+    ensures ends32 { EndsWith {A = ℕ} (0x1_F600 ∷ []) (0x21 ∷ 0x1_F600 ∷ []) }
+    ensures from { IsFirstFrom {A = ℕ} (0x5C ∷ []) (0x61 ∷ 0x5C ∷ 0x62 ∷ 0x5C ∷ []) 2 3 }
 {}

@@ -11,6 +11,7 @@ pub mod compare;
 pub mod edits;
 pub mod examples_bytes;
 pub mod examples_c_strings;
+pub mod examples_characters;
 pub mod examples_decoders;
 pub mod examples_faults;
 pub mod examples_ignoring_case;

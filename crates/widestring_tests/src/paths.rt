@@ -61,7 +61,8 @@ pub mod search {
 
 pub mod search_laws {
     pub use widestring::search::laws::{
-        needles_in_text, one_list_of_substrings, one_offset, worked_line, worked_substrings,
+        needles_in_text, one_list_of_substrings, one_offset, worked_line, worked_occurrences,
+        worked_substrings,
     };
 }
 
