@@ -1,7 +1,7 @@
 //! The examples of `widestring::ustr`.
 use std::test::Fail;
 use widestring::error::{DecodeUtf16Error, Utf16ConvertError, Utf32ConvertError};
-use widestring::ustr::{AnyOf, LineView, OneUnit, SplitView, U16Str, U32Str};
+use widestring::ustr::{AnyOf, LineView, OneUnit, SplitN, SplitView, U16Str, U32Str};
 use widestring::{Policy, U16String};
 
 #[test]
@@ -516,6 +516,14 @@ fn example_of_splitview(rt: HostRuntime) -> Result<(), Fail> {
     let setting = U16Str::from_slice(&[0x78, 0x3d, 0x31]);
     let cut = setting.cut_first(U16Str::from_slice(&[0x3d]));
     assert!(rt; cut == Some((U16Str::from_slice(&[0x78]), U16Str::from_slice(&[0x31]))));
+    Ok(())
+}
+
+#[test]
+fn example_of_needleview(rt: HostRuntime) -> Result<(), Fail> {
+    let row = U16Str::from_slice(&[0x61, 0x3b, 0x62, 0x3b]);
+    let fields = SplitN::new(row, OneUnit { unit: 0x3b }, 2);
+    assert!(rt; fields.count() == 2);
     Ok(())
 }
 

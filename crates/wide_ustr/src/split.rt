@@ -52,6 +52,16 @@ pub trait SplitView<P>: Copy {
 /// A view that can be split at a separator that has the same units wherever it occurs: units, one unit, or a character.
 ///
 /// The Rust crate has no such trait.
+///
+/// # Example
+///
+/// ```
+/// use widestring::ustr::{OneUnit, SplitN};
+///
+/// let row = U16Str::from_slice(&[0x61, 0x3b, 0x62, 0x3b]);
+/// let fields = SplitN::new(row, OneUnit { unit: 0x3b }, 2);
+/// assert!(rt; fields.count() == 2);
+/// ```
 pub trait NeedleView<P>: SplitView<P> {
     // The numbers of the separator's units.
     ghost needle_numbers: { P → List ℕ };
