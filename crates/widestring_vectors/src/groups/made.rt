@@ -1,5 +1,5 @@
-//! New strings in an answer. Each has its units there, and before them a `?` if the call made another number of requests
-//! for memory than one, or than none for no units.
+//! New strings in an answer. Each has its units there, and before them a `?` if the call made another number of
+//! requests for memory than one, or than none for no units.
 use crate::groups::width::Width;
 use widestring::error::OutOfMemory;
 use widestring::ucstring::UCString;
@@ -42,8 +42,8 @@ pub fn text<C: Width>(
     }
 }
 
-/// Adds the contents of a C string that was made since `left` requests were still to be granted. It has at least its NUL,
-/// so it makes one request.
+/// Adds the contents of a C string that was made since `left` requests were still to be granted. It has at least its
+/// NUL, so it makes one request.
 pub fn contents<C: Width>(
     memory: Memory<'_>,
     answer: &mut Answer,

@@ -2,9 +2,9 @@
 //! is the letter of a view, as in `kinds.rt`, and after a space the units of a needle: `u 61 62`. For C strings both
 //! lists end with a NUL, which is no part of the needle.
 //!
-//! The answer is whether the view contains the needle, begins and ends with it, each `1` or `0`, and the first offset of
-//! the needle, or a `-` if there is none. The calls for slices must return the same as those of a view of units, else
-//! there is no answer.
+//! The answer is whether the view contains the needle, begins and ends with it, each `1` or `0`, and the first offset
+//! of the needle, or a `-` if there is none. The calls for slices must return the same as those of a view of units,
+//! else there is no answer.
 use crate::groups::kinds::{self, Kind};
 use crate::groups::width::{Width, as_contents, as_text};
 use widestring::search;

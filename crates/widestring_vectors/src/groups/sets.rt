@@ -7,8 +7,8 @@
 //!   substrings are between the characters of the set, and as further fields the units of each.
 //! - Of `trims*` it has three fields: the units after the longest prefix of such characters, those before the longest
 //!   suffix, and those without both. With a `-` for the set these are the calls that take none, for White_Space.
-//! - Of `words*` the set is `w` or `a`. The answer has how many substrings between such characters are not empty, and as
-//!   further fields the units of each.
+//! - Of `words*` the set is `w` or `a`. The answer has how many substrings between such characters are not empty, and
+//!   as further fields the units of each.
 use crate::groups::answers::substrings;
 use crate::groups::kinds::{self, Kind};
 use crate::groups::width::{Width, as_contents, as_text};

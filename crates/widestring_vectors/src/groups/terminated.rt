@@ -1,5 +1,5 @@
-//! Substrings of units that a separator or the end of the units ends. A question is the letter `u`, for a view of units,
-//! a space, a letter for the separator, a space, and the separator: `u v 3B`, `u c 1F600`.
+//! Substrings of units that a separator or the end of the units ends. A question is the letter `u`, for a view of
+//! units, a space, a letter for the separator, a space, and the separator: `u v 3B`, `u c 1F600`.
 //!
 //! The separator is a view (`v`), or a character (`c`). The answer is how many substrings there are, and as further
 //! fields the units of each. Views of text and of C strings have no such calls.
