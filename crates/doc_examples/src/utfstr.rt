@@ -272,7 +272,10 @@ fn example_of_utfstr_eq_str_ignore_ascii_case(rt: HostRuntime) -> Result<(), Fai
 fn example_of_utfstr_starts_with_ignore_ascii_case(rt: HostRuntime) -> Result<(), Fail> {
     let key = Utf16String::from_str(rt.alloc(), "HKLM\\Größe")?;
     let root = Utf16String::from_str(rt.alloc(), "hklm\\g")?;
-    assert!(rt; key.as_utfstr().starts_with_ignore_ascii_case(root.as_utfstr()));
+    assert!(rt;
+        key.as_utfstr()
+            .starts_with_ignore_ascii_case(root.as_utfstr())
+    );
     Ok(())
 }
 
@@ -280,7 +283,10 @@ fn example_of_utfstr_starts_with_ignore_ascii_case(rt: HostRuntime) -> Result<()
 fn example_of_utfstr_ends_with_ignore_ascii_case(rt: HostRuntime) -> Result<(), Fail> {
     let file = Utf16String::from_str(rt.alloc(), "Größe.TXT")?;
     let extension = Utf16String::from_str(rt.alloc(), ".txt")?;
-    assert!(rt; file.as_utfstr().ends_with_ignore_ascii_case(extension.as_utfstr()));
+    assert!(rt;
+        file.as_utfstr()
+            .ends_with_ignore_ascii_case(extension.as_utfstr())
+    );
     Ok(())
 }
 
@@ -288,7 +294,10 @@ fn example_of_utfstr_ends_with_ignore_ascii_case(rt: HostRuntime) -> Result<(), 
 fn example_of_utfstr_contains_ignore_ascii_case(rt: HostRuntime) -> Result<(), Fail> {
     let name = Utf16String::from_str(rt.alloc(), "Größe.TXT")?;
     let part = Utf16String::from_str(rt.alloc(), "E.t")?;
-    assert!(rt; name.as_utfstr().contains_ignore_ascii_case(part.as_utfstr()));
+    assert!(rt;
+        name.as_utfstr()
+            .contains_ignore_ascii_case(part.as_utfstr())
+    );
     Ok(())
 }
 
@@ -296,9 +305,16 @@ fn example_of_utfstr_contains_ignore_ascii_case(rt: HostRuntime) -> Result<(), F
 fn example_of_utfstr_find_ignore_ascii_case(rt: HostRuntime) -> Result<(), Fail> {
     let file = Utf16String::from_str(rt.alloc(), "Größe.TXT")?;
     let extension = Utf16String::from_str(rt.alloc(), ".txt")?;
-    let at = file.as_utfstr().find_ignore_ascii_case(extension.as_utfstr());
+    let at = file
+        .as_utfstr()
+        .find_ignore_ascii_case(extension.as_utfstr());
     assert!(rt; at == Some(5));
-    assert!(rt; extension.as_utfstr().find_ignore_ascii_case(file.as_utfstr()).is_none());
+    assert!(rt;
+        extension
+            .as_utfstr()
+            .find_ignore_ascii_case(file.as_utfstr())
+            .is_none()
+    );
     Ok(())
 }
 

@@ -318,6 +318,7 @@ module _ {C : Type 0} (form : EncodingForm) (number : C → ℕ) (us : List C) (
   suffix-boundary members at longest = IsCharBoundary-of form (map number us) at well (longest.rest, longest.suffix, longest.joined, longest.length)
 
   pub member-boundaries : (start end : ℕ) → IsFirstMember form has (map number us) start end → IsCharBoundary form (map number us) start × IsCharBoundary form (map number us) end
-  member-boundaries start end first =
-      (IsCharBoundary-of form (map number us) start well (first.prefix, Char first.c ∷ first.rest, first.joined, first.begins),
-      IsCharBoundary-of form (map number us) end well (first.prefix ++ Char first.c ∷ [], first.rest, first.joined ∙ sym (append_assoc first.prefix (Char first.c ∷ []) first.rest), first.ends))
+  member-boundaries start end first = (
+    IsCharBoundary-of form (map number us) start well (first.prefix, Char first.c ∷ first.rest, first.joined, first.begins),
+    IsCharBoundary-of form (map number us) end well (first.prefix ++ Char first.c ∷ [], first.rest, first.joined ∙ sym (append_assoc first.prefix (Char first.c ∷ []) first.rest), first.ends),
+  )

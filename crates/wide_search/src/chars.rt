@@ -1,5 +1,6 @@
-//! Searches for a character in units, from both ends: whether the units begin or end with it, and where it occurs. The units of a character occur only
-//! where it is a character of the units, so no half of a surrogate pair is found (Unicode Standard, section 3.8, D75).
+//! Searches for a character in units, from both ends: whether the units begin or end with it, and where it occurs. The
+//! units of a character occur only where it is a character of the units, so no half of a surrogate pair is found
+//! (Unicode Standard, section 3.8, D75).
 
 ghost use Rattle.std.specs.Prelude.{◌↔◌, ◌+◌, ◌≤◌, length, map, IsTrue, IfNone, IfSome};
 ghost use Rattle.wide_forms.specs.EncodingForm.{code_units};

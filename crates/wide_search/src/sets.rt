@@ -5,7 +5,6 @@ ghost use Rattle.std.specs.Prelude.{◌≡◌, ◌<◌, ◌≤◌, length, map, 
 ghost use Rattle.std.specs.List.{All};
 ghost use Rattle.wide_forms.specs.Items.{items};
 ghost use Rattle.wide_search.specs.Sets.{is_member, IsFirstMember, IsLongestPrefix, IsLongestSuffix};
-
 ghost use Rattle.wide_unit.specs.Unit.{item_of};
 
 use crate::char_set::CharSet;

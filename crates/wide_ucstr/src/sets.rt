@@ -16,8 +16,8 @@ use wide_ustr::{AnyOf, Split, SplitFilled, UStr};
 use wide_utferror::FaultUnit;
 
 impl<'a, C: FaultUnit> UCStr<'a, C> {
-    /// Returns the offset, in units, at which the first character of the set begins, or `None` if the contents have none.
-    /// Half of a surrogate pair is no character, so it is in no set.
+    /// Returns the offset, in units, at which the first character of the set begins, or `None` if the contents have
+    /// none. Half of a surrogate pair is no character, so it is in no set.
     ///
     /// # Example
     ///
@@ -36,7 +36,8 @@ impl<'a, C: FaultUnit> UCStr<'a, C> {
 
     /// Returns an iterator over the substrings between the characters of the set, from the front. Half of a surrogate
     /// pair is no character and separates nothing. If a character of the set is at the start, at the end, or next to
-    /// another one, the substring there is empty. If there is none, the contents are the only substring, without the NUL.
+    /// another one, the substring there is empty. If there is none, the contents are the only substring, without the
+    /// NUL.
     ///
     /// # Example
     ///
@@ -57,8 +58,9 @@ impl<'a, C: FaultUnit> UCStr<'a, C> {
         self.as_ustr().split_any(set)
     }
 
-    /// Returns an iterator over the words of the contents: the substrings between White_Space characters (Unicode Character
-    /// Database) that are not empty, from the front. Half of a surrogate pair is no character, so it is part of a word.
+    /// Returns an iterator over the words of the contents: the substrings between White_Space characters (Unicode
+    /// Character Database) that are not empty, from the front. Half of a surrogate pair is no character, so it is part
+    /// of a word.
     ///
     /// # Example
     ///
@@ -75,8 +77,8 @@ impl<'a, C: FaultUnit> UCStr<'a, C> {
         self.as_ustr().split_whitespace()
     }
 
-    /// Returns an iterator over the words of the contents: the substrings between the white space of ASCII (space, tab, line
-    /// feed, form feed and carriage return) that are not empty, from the front.
+    /// Returns an iterator over the words of the contents: the substrings between the white space of ASCII (space, tab,
+    /// line feed, form feed and carriage return) that are not empty, from the front.
     ///
     /// # Example
     ///
@@ -93,8 +95,8 @@ impl<'a, C: FaultUnit> UCStr<'a, C> {
         self.as_ustr().split_ascii_whitespace()
     }
 
-    /// Returns a view of the contents after the longest prefix that consists of characters of the set. A character is a set of
-    /// one.
+    /// Returns a view of the contents after the longest prefix that consists of characters of the set. A character is a
+    /// set of one.
     ///
     /// # Example
     ///
@@ -108,8 +110,8 @@ impl<'a, C: FaultUnit> UCStr<'a, C> {
         self.as_ustr().trim_start_matches(set)
     }
 
-    /// Returns a view of the contents before the longest suffix that consists of characters of the set. A character is a set
-    /// of one.
+    /// Returns a view of the contents before the longest suffix that consists of characters of the set. A character is
+    /// a set of one.
     ///
     /// # Example
     ///
@@ -123,8 +125,9 @@ impl<'a, C: FaultUnit> UCStr<'a, C> {
         self.as_ustr().trim_end_matches(set)
     }
 
-    /// Returns a view of the contents, without their NUL, without the longest prefix and the longest suffix that consist of characters of the set. A
-    /// character is a set of one. The view is empty if all items are characters of the set.
+    /// Returns a view of the contents, without their NUL, without the longest prefix and the longest suffix that
+    /// consist of characters of the set. A character is a set of one. The view is empty if all items are characters of
+    /// the set.
     ///
     /// # Example
     ///
@@ -166,8 +169,8 @@ impl<'a, C: FaultUnit> UCStr<'a, C> {
         self.as_ustr().trim_end()
     }
 
-    /// Returns a view of the contents, without their NUL, without the longest prefix and the longest suffix of White_Space characters (Unicode Character
-    /// Database). It is empty if all items are such characters.
+    /// Returns a view of the contents, without their NUL, without the longest prefix and the longest suffix of
+    /// White_Space characters (Unicode Character Database). It is empty if all items are such characters.
     ///
     /// # Example
     ///

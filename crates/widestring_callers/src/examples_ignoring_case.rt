@@ -1,39 +1,52 @@
-//! Searches in views of units without regard to the case of ASCII letters, at concrete units of either width.
-ghost use Rattle.std.specs.Prelude.{◌≡◌, ◌∷◌, [], Some, None, true, false};
+//! Searches in views of units without regard to the case of ASCII letters: where the needle is known to occur, and at
+//! concrete units of either width.
+ghost use Rattle.std.specs.Prelude.{◌≡◌, ◌≤◌, Some, None, true, false};
+ghost use Rattle.widestring.specs.Lowercased.{lowercased};
+ghost use Rattle.widestring.specs.Occurrences.{OccursAt, BeginsWith, EndsWith};
+ghost use Rattle.widestring.specs.UnitView.{numbers_seen};
 
+use widestring::unit::Unit;
+use widestring::ustr::UStr;
 use widestring::{U16Str, U32Str};
 
-/// Finds a letter in the other case, in units of 16 bits.
-pub fn letter_in_the_other_case_16() -> usize
-    ensures { result ≡ 1 }
+/// Returns the offset at which a needle occurs first, in any case of its letters.
+///
+/// # Requires
+///
+/// The needle occurs at the offset, without regard to the case of ASCII letters.
+pub fn found_in_any_case<C: Unit>(units: UStr<'_, C>, part: UStr<'_, C>, offset: usize) -> usize
+    requires { OccursAt (lowercased (numbers_seen C.number part)) (lowercased (numbers_seen C.number units)) offset }
+    ensures here { OccursAt (lowercased (numbers_seen C.number part.entry)) (lowercased (numbers_seen C.number units.entry)) result }
+    ensures first { result ≤ offset }
 {
-    let text = U16Str::from_slice(&[0x61, 0x52]);
-    match text.find_ignore_ascii_case(U16Str::from_slice(&[0x72])) {
+    match units.find_ignore_ascii_case(part) {
         Some(at) => at,
         None => unreachable!(),
     }
 }
 
-/// Finds the first one of two occurrences in different cases, in units of 16 bits.
-pub fn first_of_two_16() -> usize
-    ensures { result ≡ 1 }
+/// Finds that units begin with a needle in any case of its letters.
+///
+/// # Requires
+///
+/// They do.
+pub fn begins_in_any_case<C: Unit>(units: UStr<'_, C>, part: UStr<'_, C>) -> bool
+    requires { BeginsWith (lowercased (numbers_seen C.number part)) (lowercased (numbers_seen C.number units)) }
+    ensures { result ≡ true }
 {
-    let text = U16Str::from_slice(&[0x2E, 0x52, 0x72]);
-    match text.find_ignore_ascii_case(U16Str::from_slice(&[0x72])) {
-        Some(at) => at,
-        None => unreachable!(),
-    }
+    units.starts_with_ignore_ascii_case(part)
 }
 
-/// Finds an extension at the end, in units of 16 bits.
-pub fn extension_at_the_end_16() -> usize
-    ensures { result ≡ 1 }
+/// Finds that units end with a needle in any case of its letters.
+///
+/// # Requires
+///
+/// They do.
+pub fn ends_in_any_case<C: Unit>(units: UStr<'_, C>, part: UStr<'_, C>) -> bool
+    requires { EndsWith (lowercased (numbers_seen C.number part)) (lowercased (numbers_seen C.number units)) }
+    ensures { result ≡ true }
 {
-    let text = U16Str::from_slice(&[0x61, 0x2E, 0x54]);
-    match text.find_ignore_ascii_case(U16Str::from_slice(&[0x2E, 0x74])) {
-        Some(at) => at,
-        None => unreachable!(),
-    }
+    units.ends_with_ignore_ascii_case(part)
 }
 
 /// Finds an empty needle at the start, in units of 16 bits. The units begin and end with it.
@@ -105,20 +118,6 @@ pub fn neighbours_of_letters_16() -> (bool, bool, bool, bool)
     )
 }
 
-/// Compares the start of a path and its end with letters in the other case, in units of 16 bits.
-pub fn both_ends_of_a_path_16() -> (bool, bool, bool)
-    ensures { result ≡ (true, false, false) }
-{
-    let path = U16Str::from_slice(&[0x43, 0x3A]);
-    let drive = U16Str::from_slice(&[0x63]);
-    let colon = U16Str::from_slice(&[0x3A]);
-    (
-        path.starts_with_ignore_ascii_case(drive),
-        path.starts_with_ignore_ascii_case(colon),
-        path.ends_with_ignore_ascii_case(drive),
-    )
-}
-
 /// Compares a whole name with letters in the other case, in units of 16 bits.
 pub fn whole_name_16() -> (bool, bool)
     ensures { result ≡ (true, true) }
@@ -129,39 +128,6 @@ pub fn whole_name_16() -> (bool, bool)
         name.starts_with_ignore_ascii_case(other),
         name.ends_with_ignore_ascii_case(other),
     )
-}
-
-/// Finds a letter in the other case, in units of 32 bits.
-pub fn letter_in_the_other_case_32() -> usize
-    ensures { result ≡ 1 }
-{
-    let text = U32Str::from_slice(&[0x61, 0x52]);
-    match text.find_ignore_ascii_case(U32Str::from_slice(&[0x72])) {
-        Some(at) => at,
-        None => unreachable!(),
-    }
-}
-
-/// Finds the first one of two occurrences in different cases, in units of 32 bits.
-pub fn first_of_two_32() -> usize
-    ensures { result ≡ 1 }
-{
-    let text = U32Str::from_slice(&[0x2E, 0x52, 0x72]);
-    match text.find_ignore_ascii_case(U32Str::from_slice(&[0x72])) {
-        Some(at) => at,
-        None => unreachable!(),
-    }
-}
-
-/// Finds an extension at the end, in units of 32 bits.
-pub fn extension_at_the_end_32() -> usize
-    ensures { result ≡ 1 }
-{
-    let text = U32Str::from_slice(&[0x61, 0x2E, 0x54]);
-    match text.find_ignore_ascii_case(U32Str::from_slice(&[0x2E, 0x74])) {
-        Some(at) => at,
-        None => unreachable!(),
-    }
 }
 
 /// Finds an empty needle at the start, in units of 32 bits. The units begin and end with it.
@@ -230,20 +196,6 @@ pub fn neighbours_of_letters_32() -> (bool, bool, bool, bool)
         brace.contains_ignore_ascii_case(bracket),
         at_sign.contains_ignore_ascii_case(grave),
         grave.contains_ignore_ascii_case(at_sign),
-    )
-}
-
-/// Compares the start of a path and its end with letters in the other case, in units of 32 bits.
-pub fn both_ends_of_a_path_32() -> (bool, bool, bool)
-    ensures { result ≡ (true, false, false) }
-{
-    let path = U32Str::from_slice(&[0x43, 0x3A]);
-    let drive = U32Str::from_slice(&[0x63]);
-    let colon = U32Str::from_slice(&[0x3A]);
-    (
-        path.starts_with_ignore_ascii_case(drive),
-        path.starts_with_ignore_ascii_case(colon),
-        path.ends_with_ignore_ascii_case(drive),
     )
 }
 

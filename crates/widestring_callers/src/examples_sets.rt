@@ -10,8 +10,7 @@ ghost use Rattle.widestring.specs.UnitView.{units_seen};
 ghost use Rattle.widestring.specs.View.{text_seen, units_seen as text_units};
 ghost use Rattle.std.specs.Char.{is_whitespace, is_ascii_whitespace};
 
-use widestring::search::laws;
-use widestring::search::{AsciiWhiteSpace, CharSet, WhiteSpace};
+use widestring::search::{AsciiWhiteSpace, CharSet, WhiteSpace, laws};
 use widestring::ustr::{AnyOf, Split, SplitFilled, SplitTerminator};
 use widestring::{U16Str, Utf16Str};
 

@@ -1,8 +1,10 @@
 //! Searches in C strings and in text without regard to the case of ASCII letters, at concrete units of either width,
 //! and callers that cut at the offsets that such searches return.
-ghost use Rattle.std.specs.Prelude.{◌≡◌, ◌∷◌, [], false};
+ghost use Rattle.std.specs.Prelude.{◌≡◌, ◌≤◌, ◌∷◌, [], false};
 ghost use Rattle.widestring.specs.CStringView.{contents_seen};
-ghost use Rattle.widestring.specs.View.{units_seen};
+ghost use Rattle.widestring.specs.Lowercased.{lowercased};
+ghost use Rattle.widestring.specs.Occurrences.{OccursAt};
+ghost use Rattle.widestring.specs.View.{units_seen, numbers_seen};
 
 use widestring::unit::Unit;
 use widestring::utfstr::UtfStr;
@@ -80,17 +82,18 @@ pub fn letter_past_ascii_in_a_c_string_32(
     )
 }
 
-/// Finds a letter in the other case in a text of 16-bit units.
+/// Finds a needle in a text of 16-bit units, in any case, at or before an offset at which the caller knows that it
+/// occurs.
 ///
 /// # Requires
 ///
-/// The text is `aR`, and the needle `r`.
-pub fn letter_in_a_text_16(name: Utf16Str<'_>, letter: Utf16Str<'_>) -> usize
-    requires name { units_seen name ≡ 0x61 ∷ 0x52 ∷ [] }
-    requires letter { units_seen letter ≡ 0x72 ∷ [] }
-    ensures { result ≡ 1 }
+/// The needle occurs at the offset, in lower case.
+pub fn found_in_a_text_by_16(text: Utf16Str<'_>, part: Utf16Str<'_>, offset: usize) -> usize
+    requires { OccursAt (lowercased (numbers_seen (λ u. u) part)) (lowercased (numbers_seen (λ u. u) text)) offset }
+    ensures here { OccursAt (lowercased (numbers_seen (λ u. u) part.entry)) (lowercased (numbers_seen (λ u. u) text.entry)) result }
+    ensures first { result ≤ offset }
 {
-    match name.find_ignore_ascii_case(letter) {
+    match text.find_ignore_ascii_case(part) {
         Some(at) => at,
         None => unreachable!(),
     }
@@ -116,17 +119,18 @@ pub fn letter_past_ascii_in_a_text_16(
     )
 }
 
-/// Finds a letter in the other case in a text of 32-bit units.
+/// Finds a needle in a text of 32-bit units, in any case, at or before an offset at which the caller knows that it
+/// occurs.
 ///
 /// # Requires
 ///
-/// The text is `aR`, and the needle `r`.
-pub fn letter_in_a_text_32(name: Utf32Str<'_>, letter: Utf32Str<'_>) -> usize
-    requires name { units_seen name ≡ 0x61 ∷ 0x52 ∷ [] }
-    requires letter { units_seen letter ≡ 0x72 ∷ [] }
-    ensures { result ≡ 1 }
+/// The needle occurs at the offset, in lower case.
+pub fn found_in_a_text_by_32(text: Utf32Str<'_>, part: Utf32Str<'_>, offset: usize) -> usize
+    requires { OccursAt (lowercased (numbers_seen (λ u. u) part)) (lowercased (numbers_seen (λ u. u) text)) offset }
+    ensures here { OccursAt (lowercased (numbers_seen (λ u. u) part.entry)) (lowercased (numbers_seen (λ u. u) text.entry)) result }
+    ensures first { result ≤ offset }
 {
-    match name.find_ignore_ascii_case(letter) {
+    match text.find_ignore_ascii_case(part) {
         Some(at) => at,
         None => unreachable!(),
     }
