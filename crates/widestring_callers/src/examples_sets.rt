@@ -84,7 +84,7 @@ pub fn trimmed_at_start(line: U16Str<'_>) -> U16Str<'_>
 /// # Requires
 ///
 /// The units are a space, a surrogate that belongs to no pair, U+3000, `a` and a space.
-pub fn trimmed_of_letters(line: U16Str<'_>, letters: &[char]) -> U16Str<'_>
+pub fn trimmed_of_letters<'a>(line: U16Str<'a>, letters: &[char]) -> U16Str<'a>
     requires line { units_seen line ≡ 0x20 ∷ 0xD800 ∷ 0x3000 ∷ 0x61 ∷ 0x20 ∷ [] }
     requires letters { letters.now ≡ 0x61 ∷ 0x20 ∷ [] }
     ensures { units_seen result ≡ 0x20 ∷ 0xD800 ∷ 0x3000 ∷ [] }
