@@ -268,7 +268,9 @@ impl<'a, C: FaultUnit> UCStr<'a, C> {
         self,
         needle: UCStr<'p, C>,
     ) -> SplitTerminator<UStr<'a, C>, UStr<'p, C>>
-        ensures { unit_terminated_left C.number result ≡ terminated (substrings (map C.number (contents_seen needle.entry)) (map C.number (contents_seen self.entry))) }
+        ensures left { unit_terminated_left C.number result ≡ terminated (substrings (map C.number (contents_seen needle.entry)) (map C.number (contents_seen self.entry))) }
+        ensures most { length (unit_terminated_left C.number result) ≤ length (contents_seen self.entry) + 1 }
+        ensures fits { length (unit_terminated_left C.number result) < 2 ^ 64 }
     {
         self.as_ustr().split_terminator(needle.as_ustr())
     }
@@ -287,7 +289,9 @@ impl<'a, C: FaultUnit> UCStr<'a, C> {
     /// assert!(rt; parts.next().is_none());
     /// ```
     pub fn split_terminator_char(self, c: char) -> SplitTerminator<UStr<'a, C>, char>
-        ensures { char_terminated_left C.form C.number result ≡ terminated (substrings (code_units C.form c) (map C.number (contents_seen self.entry))) }
+        ensures left { char_terminated_left C.form C.number result ≡ terminated (substrings (code_units C.form c) (map C.number (contents_seen self.entry))) }
+        ensures most { length (char_terminated_left C.form C.number result) ≤ length (contents_seen self.entry) + 1 }
+        ensures fits { length (char_terminated_left C.form C.number result) < 2 ^ 64 }
     {
         self.as_ustr().split_terminator_char(c)
     }

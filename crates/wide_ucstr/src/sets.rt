@@ -72,7 +72,9 @@ impl<'a, C: FaultUnit> UCStr<'a, C> {
     /// assert!(rt; words.next().is_none());
     /// ```
     pub fn split_whitespace(self) -> SplitFilled<UStr<'a, C>, AnyOf<WhiteSpace>>
-        ensures { any_filled_left C.form C.number (λ _. is_whitespace) result ≡ filled (substrings_between C.form is_whitespace (map C.number (contents_seen self.entry))) }
+        ensures left { any_filled_left C.form C.number (λ _. is_whitespace) result ≡ filled (substrings_between C.form is_whitespace (map C.number (contents_seen self.entry))) }
+        ensures most { length (any_filled_left C.form C.number (λ _. is_whitespace) result) ≤ length (contents_seen self.entry) + 1 }
+        ensures fits { length (any_filled_left C.form C.number (λ _. is_whitespace) result) < 2 ^ 64 }
     {
         self.as_ustr().split_whitespace()
     }
@@ -90,7 +92,9 @@ impl<'a, C: FaultUnit> UCStr<'a, C> {
     /// assert!(rt; words.next().is_none());
     /// ```
     pub fn split_ascii_whitespace(self) -> SplitFilled<UStr<'a, C>, AnyOf<AsciiWhiteSpace>>
-        ensures { any_filled_left C.form C.number (λ _. is_ascii_whitespace) result ≡ filled (substrings_between C.form is_ascii_whitespace (map C.number (contents_seen self.entry))) }
+        ensures left { any_filled_left C.form C.number (λ _. is_ascii_whitespace) result ≡ filled (substrings_between C.form is_ascii_whitespace (map C.number (contents_seen self.entry))) }
+        ensures most { length (any_filled_left C.form C.number (λ _. is_ascii_whitespace) result) ≤ length (contents_seen self.entry) + 1 }
+        ensures fits { length (any_filled_left C.form C.number (λ _. is_ascii_whitespace) result) < 2 ^ 64 }
     {
         self.as_ustr().split_ascii_whitespace()
     }

@@ -119,8 +119,12 @@ impl<C: Unit> UStr<'_, C> {
     /// assert!(rt; words.next().is_none());
     /// ```
     pub fn split_whitespace(self) -> SplitFilled<Self, AnyOf<WhiteSpace>>
-        ensures { any_filled_left C.form C.number (λ _. is_whitespace) result ≡ filled (substrings_between C.form is_whitespace (numbers_seen C.number self.entry)) }
+        ensures left { any_filled_left C.form C.number (λ _. is_whitespace) result ≡ filled (substrings_between C.form is_whitespace (numbers_seen C.number self.entry)) }
+        ensures most { length (any_filled_left C.form C.number (λ _. is_whitespace) result) ≤ length (units_seen self.entry) + 1 }
+        ensures fits { length (any_filled_left C.form C.number (λ _. is_whitespace) result) < 2 ^ 64 }
     {
+        // This call is for its contract: there are so few units that one more substring can be counted.
+        let _bytes = byte_len(self.units);
         SplitFilled::new(self, AnyOf { set: WhiteSpace })
     }
 
@@ -137,8 +141,12 @@ impl<C: Unit> UStr<'_, C> {
     /// assert!(rt; words.next().is_none());
     /// ```
     pub fn split_ascii_whitespace(self) -> SplitFilled<Self, AnyOf<AsciiWhiteSpace>>
-        ensures { any_filled_left C.form C.number (λ _. is_ascii_whitespace) result ≡ filled (substrings_between C.form is_ascii_whitespace (numbers_seen C.number self.entry)) }
+        ensures left { any_filled_left C.form C.number (λ _. is_ascii_whitespace) result ≡ filled (substrings_between C.form is_ascii_whitespace (numbers_seen C.number self.entry)) }
+        ensures most { length (any_filled_left C.form C.number (λ _. is_ascii_whitespace) result) ≤ length (units_seen self.entry) + 1 }
+        ensures fits { length (any_filled_left C.form C.number (λ _. is_ascii_whitespace) result) < 2 ^ 64 }
     {
+        // This call is for its contract: there are so few units that one more substring can be counted.
+        let _bytes = byte_len(self.units);
         SplitFilled::new(
             self,
             AnyOf {

@@ -1,15 +1,16 @@
 //! The substrings of a view that a separator ends.
-ghost use Rattle.std.specs.Prelude.{◌≡◌, length, None, IfSome};
+ghost use Rattle.std.specs.Prelude.{◌≡◌, ◌<◌, ◌≤◌, ◌+◌, ◌^◌, length, None, IfSome};
 ghost use Rattle.std.specs.Iterator.{YieldsFirstBy, at_most, UpTo};
 ghost use Rattle.std.specs.Iterator.SizeHint.{IsWithinCount};
 ghost use Rattle.wide_forms.specs.EncodingForm.{code_units};
 ghost use Rattle.wide_search.specs.Cut.{substrings};
 ghost use Rattle.wide_ustr.specs.SplitMore.{terminated, terminated_left, unit_terminated_left, char_terminated_left};
-ghost use Rattle.wide_ustr.specs.View.{numbers_seen};
+ghost use Rattle.wide_ustr.specs.View.{units_seen, numbers_seen};
 
 use crate::split::{Split, SplitView};
 use crate::view::UStr;
 use std::iter::FusedIterator;
+use wide_from_units::byte_len;
 use wide_unit::Unit;
 
 /// An iterator over the substrings of a view that end at an occurrence of a separator or at the end, from the front. If
@@ -82,8 +83,12 @@ impl<C: Unit> UStr<'_, C> {
     /// assert!(rt; parts.next().is_none());
     /// ```
     pub fn split_terminator<'p>(self, needle: UStr<'p, C>) -> SplitTerminator<Self, UStr<'p, C>>
-        ensures { unit_terminated_left C.number result ≡ terminated (substrings (numbers_seen C.number needle.entry) (numbers_seen C.number self.entry)) }
+        ensures left { unit_terminated_left C.number result ≡ terminated (substrings (numbers_seen C.number needle.entry) (numbers_seen C.number self.entry)) }
+        ensures most { length (unit_terminated_left C.number result) ≤ length (units_seen self.entry) + 1 }
+        ensures fits { length (unit_terminated_left C.number result) < 2 ^ 64 }
     {
+        // This call is for its contract: there are so few units that one more substring can be counted.
+        let _bytes = byte_len(self.units);
         SplitTerminator::new(self, needle)
     }
 
@@ -100,8 +105,12 @@ impl<C: Unit> UStr<'_, C> {
     /// assert!(rt; parts.next().is_none());
     /// ```
     pub fn split_terminator_char(self, c: char) -> SplitTerminator<Self, char>
-        ensures { char_terminated_left C.form C.number result ≡ terminated (substrings (code_units C.form c) (numbers_seen C.number self.entry)) }
+        ensures left { char_terminated_left C.form C.number result ≡ terminated (substrings (code_units C.form c) (numbers_seen C.number self.entry)) }
+        ensures most { length (char_terminated_left C.form C.number result) ≤ length (units_seen self.entry) + 1 }
+        ensures fits { length (char_terminated_left C.form C.number result) < 2 ^ 64 }
     {
+        // This call is for its contract: there are so few units that one more substring can be counted.
+        let _bytes = byte_len(self.units);
         SplitTerminator::new(self, c)
     }
 }

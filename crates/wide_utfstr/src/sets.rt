@@ -104,7 +104,11 @@ impl<C: Unit> UtfStr<'_, C> {
     /// ```
     pub fn split_whitespace(self) -> SplitFilled<Self, AnyOf<WhiteSpace>>
         ensures left { any_filled_left C.form C.number (λ _. is_whitespace) result ≡ filled (substrings_between C.form is_whitespace (numbers_seen C.number self.entry)) }
+        ensures most { length (any_filled_left C.form C.number (λ _. is_whitespace) result) ≤ length (units_seen self.entry) + 1 }
+        ensures fits { length (any_filled_left C.form C.number (λ _. is_whitespace) result) < 2 ^ 64 }
     {
+        // This call is for its contract: there are so few units that one more substring can be counted.
+        let _bytes = byte_len(self.as_slice());
         SplitFilled::new(self, AnyOf { set: WhiteSpace })
     }
 
@@ -122,7 +126,11 @@ impl<C: Unit> UtfStr<'_, C> {
     /// ```
     pub fn split_ascii_whitespace(self) -> SplitFilled<Self, AnyOf<AsciiWhiteSpace>>
         ensures left { any_filled_left C.form C.number (λ _. is_ascii_whitespace) result ≡ filled (substrings_between C.form is_ascii_whitespace (numbers_seen C.number self.entry)) }
+        ensures most { length (any_filled_left C.form C.number (λ _. is_ascii_whitespace) result) ≤ length (units_seen self.entry) + 1 }
+        ensures fits { length (any_filled_left C.form C.number (λ _. is_ascii_whitespace) result) < 2 ^ 64 }
     {
+        // This call is for its contract: there are so few units that one more substring can be counted.
+        let _bytes = byte_len(self.as_slice());
         SplitFilled::new(
             self,
             AnyOf {

@@ -125,8 +125,12 @@ impl<C: Unit> UtfStr<'_, C> {
     /// assert!(rt; parts.next().is_none());
     /// ```
     pub fn split_terminator<'p>(self, needle: UtfStr<'p, C>) -> SplitTerminator<Self, UtfStr<'p, C>>
-        ensures { text_terminated_left C.number result ≡ terminated (substrings (numbers_seen C.number needle.entry) (numbers_seen C.number self.entry)) }
+        ensures left { text_terminated_left C.number result ≡ terminated (substrings (numbers_seen C.number needle.entry) (numbers_seen C.number self.entry)) }
+        ensures most { length (text_terminated_left C.number result) ≤ length (units_seen self.entry) + 1 }
+        ensures fits { length (text_terminated_left C.number result) < 2 ^ 64 }
     {
+        // This call is for its contract: there are so few units that one more substring can be counted.
+        let _bytes = byte_len(self.as_slice());
         SplitTerminator::new(self, needle)
     }
 
@@ -143,8 +147,12 @@ impl<C: Unit> UtfStr<'_, C> {
     /// assert!(rt; parts.next().is_none());
     /// ```
     pub fn split_terminator_char(self, c: char) -> SplitTerminator<Self, char>
-        ensures { char_terminated_left C.form C.number result ≡ terminated (substrings (code_units C.form c) (numbers_seen C.number self.entry)) }
+        ensures left { char_terminated_left C.form C.number result ≡ terminated (substrings (code_units C.form c) (numbers_seen C.number self.entry)) }
+        ensures most { length (char_terminated_left C.form C.number result) ≤ length (units_seen self.entry) + 1 }
+        ensures fits { length (char_terminated_left C.form C.number result) < 2 ^ 64 }
     {
+        // This call is for its contract: there are so few units that one more substring can be counted.
+        let _bytes = byte_len(self.as_slice());
         SplitTerminator::new(self, c)
     }
 }

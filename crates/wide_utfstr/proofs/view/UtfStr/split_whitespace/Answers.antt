@@ -1,0 +1,15 @@
+use Rattle.std.proofs.Common.{◌*◌, ◌∙◌, ap, arith, length, map}
+use Rattle.wide_forms.specs.UnitBytes.{unit_width}
+use Rattle.std.specs.Char.{is_whitespace}
+use Rattle.wide_search.specs.Sets.{substrings_between}
+use Rattle.wide_search.proofs.Members.{between-most}
+use Rattle.wide_ustr.proofs.SubstringCounts.{few_units, filled-length}
+use Rattle.wide_utfstr.specs.View.{units_seen}
+use Rattle.wide_utfstr.proofs.view.UtfStr.split_whitespace.Goals as goal
+
+pub returns-clause-most : goal.returns-clause-most
+returns-clause-most g c = omega (arith, ap length c.new.ensures, filled-length (substrings_between g.C.Unit.form is_whitespace (map g.C.Unit.number (units_seen c.args.self))), between-most g.C.Unit.form g.C.Unit.number is_whitespace (units_seen c.args.self))
+
+pub returns-clause-fits : goal.returns-clause-fits
+returns-clause-fits g c =
+    omega (arith, ap length c.new.ensures, filled-length (substrings_between g.C.Unit.form is_whitespace (map g.C.Unit.number (units_seen c.args.self))), between-most g.C.Unit.form g.C.Unit.number is_whitespace (units_seen c.args.self), few_units g.C.Unit.form (length (units_seen c.args.self)) c.byte_len-bytes.result (c.byte_len-bytes.ensures.len ∙ ap (λ us. unit_width g.C.Unit.form * length us) c.as_slice.ensures.units) c.byte_len-bytes.ensures.bound)
