@@ -522,8 +522,9 @@ fn example_of_splitview(rt: HostRuntime) -> Result<(), Fail> {
 #[test]
 fn example_of_needleview(rt: HostRuntime) -> Result<(), Fail> {
     let row = U16Str::from_slice(&[0x61, 0x3b, 0x62, 0x3b]);
-    let fields = SplitN::new(row, OneUnit { unit: 0x3b }, 2);
-    assert!(rt; fields.count() == 2);
+    let mut fields = SplitN::new(row, OneUnit { unit: 0x3b }, 2);
+    assert!(rt; fields.next() == Some(U16Str::from_slice(&[0x61])));
+    assert!(rt; fields.next() == Some(U16Str::from_slice(&[0x62, 0x3b])));
     Ok(())
 }
 

@@ -59,8 +59,9 @@ pub trait SplitView<P>: Copy {
 /// use widestring::ustr::{OneUnit, SplitN};
 ///
 /// let row = U16Str::from_slice(&[0x61, 0x3b, 0x62, 0x3b]);
-/// let fields = SplitN::new(row, OneUnit { unit: 0x3b }, 2);
-/// assert!(rt; fields.count() == 2);
+/// let mut fields = SplitN::new(row, OneUnit { unit: 0x3b }, 2);
+/// assert!(rt; fields.next() == Some(U16Str::from_slice(&[0x61])));
+/// assert!(rt; fields.next() == Some(U16Str::from_slice(&[0x62, 0x3b])));
 /// ```
 pub trait NeedleView<P>: SplitView<P> {
     // The numbers of the separator's units.
