@@ -114,15 +114,6 @@ pub fn second_backslash() -> (Option<usize>, Option<usize>)
     )
 }
 
-/// Finds the second of two occurrences of a needle from an offset between them on.
-pub fn second_occurrence() -> Option<usize>
-    ensures { result ≡ Some 3 }
-{
-    laws::worked_occurrences();
-    let path = U16Str::from_slice(&[0x61, 0x5C, 0x62, 0x5C]);
-    path.find_from(U16Str::from_slice(&[0x5C]), 2)
-}
-
 /// Finds no backslash from the end of a text on, after its last one.
 ///
 /// # Requires
