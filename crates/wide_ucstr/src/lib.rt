@@ -10,6 +10,7 @@ mod display;
 pub mod laws;
 mod search;
 mod sets;
+mod split_more;
 mod text;
 mod view;
 

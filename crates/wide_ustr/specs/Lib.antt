@@ -7,5 +7,7 @@ pub mod LineIndices
 pub mod Split
 pub mod SplitN
 pub mod SplitMore
+pub mod SplitBack
+pub mod SplitInclusive
 pub mod Sets
 pub mod Printed

@@ -14,6 +14,7 @@ mod order;
 mod search;
 mod sets;
 mod split;
+mod split_more;
 mod text;
 mod trim;
 mod view;

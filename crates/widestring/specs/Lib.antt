@@ -51,6 +51,8 @@ pub use Rattle.wide_ustr.specs.LineIndices
 pub use Rattle.wide_ustr.specs.Split
 pub use Rattle.wide_ustr.specs.SplitN
 pub use Rattle.wide_ustr.specs.SplitMore
+pub use Rattle.wide_ustr.specs.SplitBack
+pub use Rattle.wide_ustr.specs.SplitInclusive
 pub use Rattle.wide_ustr.specs.Sets as UnitSets
 pub use Rattle.wide_ustr.specs.Printed
 pub use Rattle.wide_ustring.specs.Units

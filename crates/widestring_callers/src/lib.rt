@@ -19,6 +19,7 @@ pub mod examples_printing;
 pub mod examples_replaced;
 pub mod examples_sets;
 pub mod examples_split;
+pub mod examples_split_back;
 pub mod examples_strings;
 pub mod examples_substrings;
 pub mod examples_texts;

@@ -1,6 +1,7 @@
 //! The groups of cases, and the calls of the library that each makes.
 
 mod answers;
+mod backs;
 mod bytes;
 mod case;
 mod compare;
@@ -101,13 +102,14 @@ enum OfUnits {
     Case,
     Replaced,
     Splits,
+    Backs,
     Nocase,
     Terminated,
     Sets(SetCalls),
     Decoded(Decoder),
 }
 
-static OF_UNITS: [(&str, OfUnits); 27] = [
+static OF_UNITS: [(&str, OfUnits); 28] = [
     ("items", OfUnits::Decoded(Decoder::Strict)),
     ("lossy", OfUnits::Decoded(Decoder::Lossy)),
     ("hints_lossy", OfUnits::Decoded(Decoder::LossyHints)),
@@ -135,6 +137,7 @@ static OF_UNITS: [(&str, OfUnits); 27] = [
     ("words", OfUnits::Sets(SetCalls::Words)),
     ("trims", OfUnits::Sets(SetCalls::Trims)),
     ("terminated", OfUnits::Terminated),
+    ("backs", OfUnits::Backs),
 ];
 
 impl Suite for ViewSuite {
@@ -252,6 +255,7 @@ fn with_units<C: Width>(
         OfUnits::Splits => splits::asked(memory, answer, units, question),
         OfUnits::Nocase => nocase::asked(memory, answer, units, question),
         OfUnits::Terminated => terminated::asked(memory, answer, units, question),
+        OfUnits::Backs => backs::asked(memory, answer, units, question),
         OfUnits::Sets(calls) => sets::asked(memory, answer, calls, units, question),
         OfUnits::Decoded(decoder) => decoded(memory, answer, decoder, units, question),
     }

@@ -1,7 +1,7 @@
 //! The names of the groups.
 
 /// The groups, in the order in which they are printed.
-pub static GROUPS: [&str; 61] = [
+pub static GROUPS: [&str; 63] = [
     "items16",
     "items32",
     "lossy16",
@@ -63,6 +63,8 @@ pub static GROUPS: [&str; 61] = [
     "trims32",
     "terminated16",
     "terminated32",
+    "backs16",
+    "backs32",
 ];
 
 /// The groups with corrected answers, and the crate's faults.

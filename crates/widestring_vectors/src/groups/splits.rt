@@ -178,7 +178,8 @@ fn with_parts<C: Width>(
     }
 }
 
-fn most_of(count: &str) -> Result<Option<usize>, NoAnswer> {
+// The greatest number of substrings that a word gives, or none for a `-`.
+pub fn most_of(count: &str) -> Result<Option<usize>, NoAnswer> {
     match count {
         "-" => Ok(None),
         _ => Ok(Some(parse::value(count)?)),

@@ -1,0 +1,14 @@
+use Rattle.std.proofs.Common.{◌∙◌, ap, arith, length, map}
+use Rattle.wide_forms.specs.EncodingForm.{code_units}
+use Rattle.wide_ustr.specs.View.{units_seen}
+use Rattle.wide_ustr.proofs.Mirrored.{rsplitn-whole, length-rsplitn}
+use Rattle.wide_ustr.proofs.view.UStr.rsplitn_char.Goals as goal
+
+pub returns-clause-whole : goal.returns-clause-whole
+returns-clause-whole g c = λ one. c.new.ensures ∙ rsplitn-whole (code_units g.C.Unit.form c.args.c) (map g.C.Unit.number (units_seen c.args.self)) c.args.count one
+
+pub returns-clause-most : goal.returns-clause-most
+returns-clause-most g c = omega (arith, ap length c.new.ensures, length-rsplitn c.args.count (code_units g.C.Unit.form c.args.c) (map g.C.Unit.number (units_seen c.args.self)))
+
+pub returns-clause-fits : goal.returns-clause-fits
+returns-clause-fits g c = omega (arith, c.ranges.count, ap length c.new.ensures, length-rsplitn c.args.count (code_units g.C.Unit.form c.args.c) (map g.C.Unit.number (units_seen c.args.self)))

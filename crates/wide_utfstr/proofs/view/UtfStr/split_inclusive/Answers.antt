@@ -1,0 +1,21 @@
+use Rattle.std.proofs.Common.{◌*◌, ◌∙◌, ap, arith, length, map}
+use Rattle.wide_forms.specs.UnitBytes.{unit_width}
+use Rattle.wide_search.specs.Cut.{substrings}
+use Rattle.wide_ustr.specs.SplitInclusive.{joined}
+use Rattle.wide_utfstr.specs.View.{units_seen}
+use Rattle.wide_ustr.proofs.Inclusive.{inclusive-whole, length-inclusive}
+use Rattle.wide_ustr.proofs.SubstringCounts.{few_units, substrings-most}
+use Rattle.wide_utfstr.proofs.view.UtfStr.split_inclusive.Goals as goal
+
+pub returns-clause-joined : goal.returns-clause-joined
+returns-clause-joined g c = ap joined c.new.ensures ∙ inclusive-whole (map g.C.Unit.number (units_seen c.args.needle)) (map g.C.Unit.number (units_seen c.args.self))
+
+pub returns-clause-most : goal.returns-clause-most
+returns-clause-most g c =
+    let needle = map g.C.Unit.number (units_seen c.args.needle) in
+    omega (arith, ap length c.new.ensures, length-inclusive needle (substrings needle (map g.C.Unit.number (units_seen c.args.self))), substrings-most g.C.Unit.number needle (units_seen c.args.self))
+
+pub returns-clause-fits : goal.returns-clause-fits
+returns-clause-fits g c =
+    let needle = map g.C.Unit.number (units_seen c.args.needle) in
+    omega (arith, ap length c.new.ensures, length-inclusive needle (substrings needle (map g.C.Unit.number (units_seen c.args.self))), substrings-most g.C.Unit.number needle (units_seen c.args.self), few_units g.C.Unit.form (length (units_seen c.args.self)) c.byte_len-bytes.result (c.byte_len-bytes.ensures.len ∙ ap (λ us. unit_width g.C.Unit.form * length us) c.as_slice.ensures.units) c.byte_len-bytes.ensures.bound)
