@@ -41,10 +41,27 @@ fn example_of_ucstring_from_ustr(rt: HostRuntime) -> Result<(), Fail> {
 }
 
 #[test]
+fn example_of_ucstring_from_ustr_truncate(rt: HostRuntime) -> Result<(), Fail> {
+    let buffer = U16Str::from_slice(&[0x48, 0xd83d, 0, 0x21]);
+    let name = U16CString::from_ustr_truncate(rt.alloc(), buffer)?;
+    assert!(rt; name.as_ucstr().as_slice_with_nul() == [0x48, 0xd83d, 0].as_slice());
+    Ok(())
+}
+
+#[test]
 fn example_of_ucstring_from_str(rt: HostRuntime) -> Result<(), Fail> {
     let name = U16CString::from_str(rt.alloc(), "é😀")?;
     assert!(rt; name.as_ucstr().as_slice_with_nul() == [0xe9, 0xd83d, 0xde00, 0].as_slice());
     assert!(rt; U16CString::from_str(rt.alloc(), "Hi\0there").is_err());
+    Ok(())
+}
+
+#[test]
+fn example_of_ucstring_from_str_truncate(rt: HostRuntime) -> Result<(), Fail> {
+    let name = U16CString::from_str_truncate(rt.alloc(), "é\0Hi\0")?;
+    assert!(rt; name.as_ucstr().as_slice_with_nul() == [0xe9, 0].as_slice());
+    let name = U16CString::from_str_truncate(rt.alloc(), "😀")?;
+    assert!(rt; name.as_ucstr().as_slice_with_nul() == [0xd83d, 0xde00, 0].as_slice());
     Ok(())
 }
 

@@ -14,6 +14,15 @@ fn example_of_ustring(rt: HostRuntime) -> Result<(), Fail> {
 }
 
 #[test]
+fn example_of_ustring_with_capacity(rt: HostRuntime) -> Result<(), Fail> {
+    let mut string = U16String::with_capacity(rt.alloc(), 4)?;
+    assert!(rt; string.is_empty());
+    assert!(rt; string.capacity() >= 4);
+    assert!(rt; string.push_str("Hi😀").is_ok());
+    Ok(())
+}
+
+#[test]
 fn example_of_ustring_from_str(rt: HostRuntime) -> Result<(), Fail> {
     let string = U16String::from_str(rt.alloc(), "é😀")?;
     assert!(rt; string.as_slice() == [0xe9, 0xd83d, 0xde00].as_slice());
@@ -26,6 +35,35 @@ fn example_of_ustring_from_str(rt: HostRuntime) -> Result<(), Fail> {
 fn example_of_ustring_as_ustr(rt: HostRuntime) -> Result<(), Fail> {
     let string = U16String::from_str(rt.alloc(), "Заголовок")?;
     assert!(rt; string.as_ustr().find_char('г') == Some(2));
+    Ok(())
+}
+
+#[test]
+fn example_of_ustring_capacity(rt: HostRuntime) -> Result<(), Fail> {
+    let mut string = U16String::new(rt.alloc());
+    assert!(rt; string.capacity() == 0);
+    string.push_str("Hi😀")?;
+    assert!(rt; string.capacity() >= 4);
+    Ok(())
+}
+
+#[test]
+fn example_of_ustring_reserve(rt: HostRuntime) -> Result<(), Fail> {
+    let mut string = U16String::from_str(rt.alloc(), "Hi")?;
+    string.reserve(8)?;
+    assert!(rt; string.capacity() >= 10);
+    assert!(rt; string.as_slice() == [0x48, 0x69].as_slice());
+    Ok(())
+}
+
+#[test]
+fn example_of_ustring_shrink_to_fit(rt: HostRuntime) -> Result<(), Fail> {
+    let mut string = U16String::with_capacity(rt.alloc(), 64)?;
+    string.push_str("Hi")?;
+    let before = string.capacity();
+    string.shrink_to_fit()?;
+    assert!(rt; string.capacity() < before);
+    assert!(rt; string.as_slice() == [0x48, 0x69].as_slice());
     Ok(())
 }
 
@@ -81,6 +119,15 @@ fn example_of_ustring_push_str(rt: HostRuntime) -> Result<(), Fail> {
 }
 
 #[test]
+fn example_of_ustring_split_off(rt: HostRuntime) -> Result<(), Fail> {
+    let mut string = U16String::from_vec([0x48, 0xd83d, 0xde00].to_vec(rt.alloc())?);
+    let rest = string.split_off(2)?;
+    assert!(rt; string.as_slice() == [0x48, 0xd83d].as_slice());
+    assert!(rt; rest.as_slice() == [0xde00].as_slice());
+    Ok(())
+}
+
+#[test]
 fn example_of_ustring_pop_char(rt: HostRuntime) -> Result<(), Fail> {
     let mut string = U16String::from_vec([0xd83d, 0xde00, 0xd83d].to_vec(rt.alloc())?);
     assert!(rt; string.pop_char() == Some(0xd83d));
@@ -112,6 +159,15 @@ fn example_of_ustring_make_ascii_uppercase(rt: HostRuntime) -> Result<(), Fail> 
     let mut text = U16String::from_str(rt.alloc(), "Größe")?;
     text.make_ascii_uppercase();
     assert!(rt; text.as_ustr().chars_lossy().eq("GRößE".chars()));
+    Ok(())
+}
+
+#[test]
+fn example_of_ustring_extend_ustrs(rt: HostRuntime) -> Result<(), Fail> {
+    let path = U16Str::from_slice(&[0x5c, 0x61, 0x5c, 0xd83d]);
+    let mut name = U16String::from_str(rt.alloc(), "-")?;
+    name.extend_ustrs(path.split_char('\\'))?;
+    assert!(rt; name.as_slice() == [0x2d, 0x61, 0xd83d].as_slice());
     Ok(())
 }
 

@@ -101,6 +101,15 @@ fn example_of_utfstr_as_ustr(rt: HostRuntime) -> Result<(), Fail> {
 }
 
 #[test]
+fn example_of_utfstr_code_units(rt: HostRuntime) -> Result<(), Fail> {
+    let text = Utf16Str::from_slice(&[0x48, 0xd83d, 0xde00])?;
+    assert!(rt; text.code_units().next_back() == Some(0xde00));
+    assert!(rt; text.code_units().count() == 3);
+    assert!(rt; text.chars().count() == 2);
+    Ok(())
+}
+
+#[test]
 fn example_of_utfstr_encode_utf32(rt: HostRuntime) -> Result<(), Fail> {
     let mut units = Utf16Str::from_slice(&[0x48, 0xd83d, 0xde00])?.encode_utf32();
     assert!(rt; units.next() == Some(0x48));
@@ -242,6 +251,33 @@ fn example_of_utfstr_rsplit_once(rt: HostRuntime) -> Result<(), Fail> {
     let path = Utf16Str::from_slice(&[0x61, 0x2f, 0xe9, 0x2f, 0x62])?;
     let parts = path.rsplit_once(Utf16Str::from_slice(&[0x2f])?);
     assert!(rt; parts.is_some_and(|(folder, name)| folder.eq_str("a/é") && name.eq_str("b")));
+    Ok(())
+}
+
+#[test]
+fn example_of_utfstr_escape_unicode(rt: HostRuntime) -> Result<(), Fail> {
+    let text = Utf16Str::from_slice(&[0x48, 0xd83d, 0xde00])?;
+    assert!(rt; text.escape_unicode().eq("\\u{48}\\u{1f600}".chars()));
+    let line = format!(in rt.alloc(); "<{}>", text.escape_unicode())?;
+    assert!(rt; line.as_str() == "<\\u{48}\\u{1f600}>");
+    Ok(())
+}
+
+#[test]
+fn example_of_utfstr_escape_default(rt: HostRuntime) -> Result<(), Fail> {
+    let text = Utf16Str::from_slice(&[0x22, 0xe9, 0xa, 0xd83d, 0xde00])?;
+    assert!(rt; text.escape_default().eq("\\\"\\u{e9}\\n\\u{1f600}".chars()));
+    let line = format!(in rt.alloc(); "<{}>", text.escape_default())?;
+    assert!(rt; line.as_str() == "<\\\"\\u{e9}\\n\\u{1f600}>");
+    Ok(())
+}
+
+#[test]
+fn example_of_utfstr_escape_debug(rt: HostRuntime) -> Result<(), Fail> {
+    let text = Utf16Str::from_slice(&[0x22, 0xe9, 0xa, 0xd83d, 0xde00])?;
+    assert!(rt; text.escape_debug().eq("\\\"é\\n😀".chars()));
+    let line = format!(in rt.alloc(); "<{}>", text.escape_debug())?;
+    assert!(rt; line.as_str() == "<\\\"é\\n😀>");
     Ok(())
 }
 

@@ -40,6 +40,15 @@ fn example_of_utfstring_as_utfstr(rt: HostRuntime) -> Result<(), Fail> {
 }
 
 #[test]
+fn example_of_utfstring_reserve(rt: HostRuntime) -> Result<(), Fail> {
+    let mut text = Utf16String::from_str(rt.alloc(), "é😀")?;
+    text.reserve(8)?;
+    assert!(rt; text.capacity() >= 11);
+    assert!(rt; text.as_utfstr().eq_str("é😀"));
+    Ok(())
+}
+
+#[test]
 fn example_of_utfstring_clear(rt: HostRuntime) -> Result<(), Fail> {
     let mut text = Utf16String::from_str(rt.alloc(), "Hi😀")?;
     let capacity = text.capacity();
@@ -105,6 +114,17 @@ fn example_of_utfstring_truncate(rt: HostRuntime) -> Result<(), Fail> {
     let mut text = Utf16String::from_str(rt.alloc(), "Hi😀")?;
     let end = text.as_utfstr().floor_char_boundary(3);
     text.truncate(end);
+    assert!(rt; text.as_utfstr().eq_str("Hi"));
+    Ok(())
+}
+
+#[test]
+fn example_of_utfstring_split_off(rt: HostRuntime) -> Result<(), Fail> {
+    let mut text = Utf16String::from_str(rt.alloc(), "Hi😀!")?;
+    if let Some(at) = text.as_utfstr().find_char('😀') {
+        let rest = text.split_off(at)?;
+        assert!(rt; rest.as_utfstr().eq_str("😀!"));
+    }
     assert!(rt; text.as_utfstr().eq_str("Hi"));
     Ok(())
 }
@@ -191,6 +211,16 @@ fn example_of_utfstring_from_ustr_lossy(rt: HostRuntime) -> Result<(), Fail> {
 }
 
 #[test]
+fn example_of_utfstring_from_ustr_lossy_with(rt: HostRuntime) -> Result<(), Fail> {
+    let view = U16Str::from_slice(&[0x48, 0xdc00, 0xdc00, 0x69]);
+    let text = Utf16String::from_ustr_lossy_with(rt.alloc(), view, Policy::Run)?;
+    assert!(rt; text.as_utfstr().eq_str("H\u{fffd}i"));
+    let text = Utf16String::from_ustr_lossy_with(rt.alloc(), view, Policy::Skip)?;
+    assert!(rt; text.as_utfstr().eq_str("Hi"));
+    Ok(())
+}
+
+#[test]
 fn example_of_utfstring_make_ascii_lowercase(rt: HostRuntime) -> Result<(), Fail> {
     let mut text = Utf16String::from_str(rt.alloc(), "C:\\Temp")?;
     text.make_ascii_lowercase();
@@ -207,10 +237,52 @@ fn example_of_utfstring_make_ascii_uppercase(rt: HostRuntime) -> Result<(), Fail
 }
 
 #[test]
+fn example_of_utfstring_extend_chars(rt: HostRuntime) -> Result<(), Fail> {
+    let mut text = Utf16String::from_str(rt.alloc(), "Hi")?;
+    text.extend_chars(['é', '😀'])?;
+    assert!(rt; text.as_slice() == [0x48, 0x69, 0xe9, 0xd83d, 0xde00].as_slice());
+    Ok(())
+}
+
+#[test]
+fn example_of_utfstring_extend_strs(rt: HostRuntime) -> Result<(), Fail> {
+    let mut path = Utf16String::from_str(rt.alloc(), "C:")?;
+    path.extend_strs(["\\temp", "\\é"])?;
+    assert!(rt; path.as_utfstr().eq_str("C:\\temp\\é"));
+    Ok(())
+}
+
+#[test]
+fn example_of_utfstring_extend_utfstrs(rt: HostRuntime) -> Result<(), Fail> {
+    let row = Utf16Str::from_slice(&[0xe9, 0x3b, 0xd83d, 0xde00, 0x3b])?;
+    let mut text = Utf16String::from_str(rt.alloc(), "Hi")?;
+    text.extend_utfstrs(row.split_char(';'))?;
+    assert!(rt; text.as_utfstr().eq_str("Hié😀"));
+    Ok(())
+}
+
+#[test]
 fn example_of_utfstring_from_iter_chars(rt: HostRuntime) -> Result<(), Fail> {
     let text = Utf16Str::from_slice(&[0x48, 0xd83d, 0xde00])?;
     let wide = Utf32String::from_iter_chars(rt.alloc(), text.chars())?;
     assert!(rt; wide.as_slice() == [0x48, 0x1f600].as_slice());
+    Ok(())
+}
+
+#[test]
+fn example_of_utfstring_from_iter_strs(rt: HostRuntime) -> Result<(), Fail> {
+    let words = ["é", "", "😀"];
+    let text = Utf16String::from_iter_strs(rt.alloc(), words)?;
+    assert!(rt; text.as_slice() == [0xe9, 0xd83d, 0xde00].as_slice());
+    Ok(())
+}
+
+#[test]
+fn example_of_utfstring_from_iter_utfstrs(rt: HostRuntime) -> Result<(), Fail> {
+    let line = Utf16Str::from_slice(&[0x20, 0xe9, 0x3000, 0x9, 0xd83d, 0xde00])?;
+    let words = line.split_whitespace();
+    let text = Utf16String::from_iter_utfstrs(rt.alloc(), words)?;
+    assert!(rt; text.as_utfstr().eq_str("é😀"));
     Ok(())
 }
 

@@ -286,6 +286,14 @@ impl<C: FaultUnit, A: Allocator> UCString<C, A> {
     /// # Errors
     ///
     /// Out of memory, if the allocation for the copy fails. The error holds no vector.
+    ///
+    /// # Example
+    ///
+    /// ```
+    /// let buffer = U16Str::from_slice(&[0x48, 0xd83d, 0, 0x21]);
+    /// let name = U16CString::from_ustr_truncate(rt.alloc(), buffer)?;
+    /// assert!(rt; name.as_ucstr().as_slice_with_nul() == [0x48, 0xd83d, 0].as_slice());
+    /// ```
     pub fn from_ustr_truncate(alloc: A, text: UStr<'_, C>) -> Result<Self, UCStringError<C, A>>
         ensures made { IfOk result (λ s. EndsAtFirst (map C.number (units_seen text.entry)) (map C.number s.units)) }
         ensures rejected { IfErr result IsAllocationFailure }
@@ -344,6 +352,15 @@ impl<C: FaultUnit, A: Allocator> UCString<C, A> {
     /// # Errors
     ///
     /// Out of memory, if the allocation for the whole text fails. The error holds no vector.
+    ///
+    /// # Example
+    ///
+    /// ```
+    /// let name = U16CString::from_str_truncate(rt.alloc(), "é\0Hi\0")?;
+    /// assert!(rt; name.as_ucstr().as_slice_with_nul() == [0xe9, 0].as_slice());
+    /// let name = U16CString::from_str_truncate(rt.alloc(), "😀")?;
+    /// assert!(rt; name.as_ucstr().as_slice_with_nul() == [0xd83d, 0xde00, 0].as_slice());
+    /// ```
     pub fn from_str_truncate(alloc: A, text: &str) -> Result<Self, UCStringError<C, A>>
         ensures made { IfOk result (λ s. EndsAtFirst (encode C.form (chars text.now)) (map C.number s.units)) }
         ensures rejected { IfErr result IsAllocationFailure }

@@ -229,6 +229,15 @@ impl<C: FaultUnit, A: Allocator> UString<C, A> {
     /// # Errors
     ///
     /// [`OutOfMemory`] if the allocation for an item fails. The string then holds the items before it.
+    ///
+    /// # Example
+    ///
+    /// ```
+    /// let path = U16Str::from_slice(&[0x5c, 0x61, 0x5c, 0xd83d]);
+    /// let mut name = U16String::from_str(rt.alloc(), "-")?;
+    /// name.extend_ustrs(path.split_char('\\'))?;
+    /// assert!(rt; name.as_slice() == [0x2d, 0x61, 0xd83d].as_slice());
+    /// ```
     pub fn extend_ustrs<'a, U: IntoIterator<Item = UStr<'a, C>>>(
         &mut self,
         items: U,

@@ -114,6 +114,15 @@ impl<C: FaultUnit, A: Allocator> UString<C, A> {
     /// # Errors
     ///
     /// [`OutOfMemory`] if the allocation fails. It never fails if `capacity` is 0.
+    ///
+    /// # Example
+    ///
+    /// ```
+    /// let mut string = U16String::with_capacity(rt.alloc(), 4)?;
+    /// assert!(rt; string.is_empty());
+    /// assert!(rt; string.capacity() >= 4);
+    /// assert!(rt; string.push_str("Hi😀").is_ok());
+    /// ```
     pub fn with_capacity(alloc: A, capacity: usize) -> Result<Self, OutOfMemory>
         ensures units { IfOk result (λ s. s.units ≡ []) }
         ensures space { IfOk result (λ s. capacity ≤ s.capacity) }
@@ -217,6 +226,15 @@ impl<C: FaultUnit, A: Allocator> UString<C, A> {
     }
 
     /// Returns how many units the string can hold without allocating.
+    ///
+    /// # Example
+    ///
+    /// ```
+    /// let mut string = U16String::new(rt.alloc());
+    /// assert!(rt; string.capacity() == 0);
+    /// string.push_str("Hi😀")?;
+    /// assert!(rt; string.capacity() >= 4);
+    /// ```
     pub fn capacity(&self) -> usize
         ensures value { result ≡ self.now.capacity }
         ensures holds { ustring_len self.now ≤ result }
@@ -230,6 +248,15 @@ impl<C: FaultUnit, A: Allocator> UString<C, A> {
     ///
     /// [`OutOfMemory`] if the allocation fails; the string is unchanged. It never fails if the string already has this
     /// capacity.
+    ///
+    /// # Example
+    ///
+    /// ```
+    /// let mut string = U16String::from_str(rt.alloc(), "Hi")?;
+    /// string.reserve(8)?;
+    /// assert!(rt; string.capacity() >= 10);
+    /// assert!(rt; string.as_slice() == [0x48, 0x69].as_slice());
+    /// ```
     pub fn reserve(&mut self, more: usize) -> Result<(), OutOfMemory>
         ensures units { self.new.units ≡ self.old.units }
         ensures space { OnOk result (HasSpaceFor self.new more) }
@@ -285,6 +312,17 @@ impl<C: FaultUnit, A: Allocator> UString<C, A> {
     /// # Errors
     ///
     /// [`OutOfMemory`] if the capacity is greater than the length and could not be reduced; the string is unchanged.
+    ///
+    /// # Example
+    ///
+    /// ```
+    /// let mut string = U16String::with_capacity(rt.alloc(), 64)?;
+    /// string.push_str("Hi")?;
+    /// let before = string.capacity();
+    /// string.shrink_to_fit()?;
+    /// assert!(rt; string.capacity() < before);
+    /// assert!(rt; string.as_slice() == [0x48, 0x69].as_slice());
+    /// ```
     pub fn shrink_to_fit(&mut self) -> Result<(), OutOfMemory>
         ensures units { self.new.units ≡ self.old.units }
         ensures ok { OnOk result ((self.new.capacity < self.old.capacity) ⊎ (self.old.capacity ≤ ustring_len self.old)) }
@@ -645,6 +683,15 @@ impl<C: FaultUnit, A: Allocator> UString<C, A> {
     /// # Errors
     ///
     /// [`OutOfMemory`] if the allocation fails or the allocator cannot be copied; the string is unchanged.
+    ///
+    /// # Example
+    ///
+    /// ```
+    /// let mut string = U16String::from_vec([0x48, 0xd83d, 0xde00].to_vec(rt.alloc())?);
+    /// let rest = string.split_off(2)?;
+    /// assert!(rt; string.as_slice() == [0x48, 0xd83d].as_slice());
+    /// assert!(rt; rest.as_slice() == [0xde00].as_slice());
+    /// ```
     pub fn split_off(&mut self, at: usize) -> Result<Self, OutOfMemory>
     where
         A: Clone,

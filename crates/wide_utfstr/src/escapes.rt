@@ -412,6 +412,15 @@ impl<'a, C: Unit> UtfStr<'a, C> {
 
     /// Returns an iterator over the escaped characters, each as `\u{..}` with its number in lower-case hexadecimal,
     /// without leading zeros.
+    ///
+    /// # Example
+    ///
+    /// ```
+    /// let text = Utf16Str::from_slice(&[0x48, 0xd83d, 0xde00])?;
+    /// assert!(rt; text.escape_unicode().eq("\\u{48}\\u{1f600}".chars()));
+    /// let line = format!(in rt.alloc(); "<{}>", text.escape_unicode())?;
+    /// assert!(rt; line.as_str() == "<\\u{48}\\u{1f600}>");
+    /// ```
     pub fn escape_unicode(self) -> EscapeUnicode<'a, C>
         ensures { unicode_left result ≡ flat_map escape_unicode (text_seen self.entry) }
     {
@@ -423,6 +432,15 @@ impl<'a, C: Unit> UtfStr<'a, C> {
     /// Returns an iterator over the escaped characters, as [`char::escape_default`] returns them. Tab, carriage return
     /// and line feed become `\t`, `\r` and `\n`. Quotes of both kinds and the backslash get a backslash before them.
     /// Other characters from U+0020 to U+007E are not escaped. All others become `\u{..}`.
+    ///
+    /// # Example
+    ///
+    /// ```
+    /// let text = Utf16Str::from_slice(&[0x22, 0xe9, 0xa, 0xd83d, 0xde00])?;
+    /// assert!(rt; text.escape_default().eq("\\\"\\u{e9}\\n\\u{1f600}".chars()));
+    /// let line = format!(in rt.alloc(); "<{}>", text.escape_default())?;
+    /// assert!(rt; line.as_str() == "<\\\"\\u{e9}\\n\\u{1f600}>");
+    /// ```
     pub fn escape_default(self) -> EscapeDefault<'a, C>
         ensures { default_left result ≡ flat_map escape_default (text_seen self.entry) }
     {
@@ -435,6 +453,15 @@ impl<'a, C: Unit> UtfStr<'a, C> {
     /// line feed and NUL become `\t`, `\r`, `\n` and `\0`. Quotes of both kinds and the backslash get a backslash
     /// before them. Other characters from U+0020 to U+007E are not escaped, nor are printable characters past ASCII.
     /// All others become `\u{..}`. The contract specifies the text only if all characters are ASCII.
+    ///
+    /// # Example
+    ///
+    /// ```
+    /// let text = Utf16Str::from_slice(&[0x22, 0xe9, 0xa, 0xd83d, 0xde00])?;
+    /// assert!(rt; text.escape_debug().eq("\\\"é\\n😀".chars()));
+    /// let line = format!(in rt.alloc(); "<{}>", text.escape_debug())?;
+    /// assert!(rt; line.as_str() == "<\\\"é\\n😀>");
+    /// ```
     pub fn escape_debug(self) -> EscapeDebug<'a, C>
         ensures left { debug_left result ≡ flat_map escape_debug (text_seen self.entry) }
         ensures ascii { list_all is_ascii (text_seen self.entry) ≡ true → HasAsciiLeft result }

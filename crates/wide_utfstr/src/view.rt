@@ -478,6 +478,15 @@ impl<'a> UtfStr<'a, u16> {
     ghost use Rattle.wide_utfstr.specs.Iter.{code_units_rest, chars_left};
 
     /// Returns an iterator over the units, from both ends.
+    ///
+    /// # Example
+    ///
+    /// ```
+    /// let text = Utf16Str::from_slice(&[0x48, 0xd83d, 0xde00])?;
+    /// assert!(rt; text.code_units().next_back() == Some(0xde00));
+    /// assert!(rt; text.code_units().count() == 3);
+    /// assert!(rt; text.chars().count() == 2);
+    /// ```
     pub fn code_units(self) -> CodeUnits<'a>
         ensures { code_units_rest result ≡ units_seen self.entry }
     {

@@ -79,6 +79,14 @@ impl<C: FaultUnit, A: Allocator> UtfString<C, A> {
     /// # Errors
     ///
     /// [`OutOfMemory`] if the allocation for an item fails. The string then holds the items before it.
+    ///
+    /// # Example
+    ///
+    /// ```
+    /// let mut text = Utf16String::from_str(rt.alloc(), "Hi")?;
+    /// text.extend_chars(['é', '😀'])?;
+    /// assert!(rt; text.as_slice() == [0x48, 0x69, 0xe9, 0xd83d, 0xde00].as_slice());
+    /// ```
     pub fn extend_chars<U: IntoIterator<Item = char>>(
         &mut self,
         items: U,
@@ -119,6 +127,14 @@ impl<C: FaultUnit, A: Allocator> UtfString<C, A> {
     /// # Errors
     ///
     /// [`OutOfMemory`] if the allocation for an item fails. The string then holds the items before it.
+    ///
+    /// # Example
+    ///
+    /// ```
+    /// let mut path = Utf16String::from_str(rt.alloc(), "C:")?;
+    /// path.extend_strs(["\\temp", "\\é"])?;
+    /// assert!(rt; path.as_utfstr().eq_str("C:\\temp\\é"));
+    /// ```
     pub fn extend_strs<'a, U: IntoIterator<Item = &'a str>>(
         &mut self,
         items: U,
@@ -159,6 +175,15 @@ impl<C: FaultUnit, A: Allocator> UtfString<C, A> {
     /// # Errors
     ///
     /// [`OutOfMemory`] if the allocation for an item fails. The string then holds the items before it.
+    ///
+    /// # Example
+    ///
+    /// ```
+    /// let row = Utf16Str::from_slice(&[0xe9, 0x3b, 0xd83d, 0xde00, 0x3b])?;
+    /// let mut text = Utf16String::from_str(rt.alloc(), "Hi")?;
+    /// text.extend_utfstrs(row.split_char(';'))?;
+    /// assert!(rt; text.as_utfstr().eq_str("Hié😀"));
+    /// ```
     pub fn extend_utfstrs<'a, U: IntoIterator<Item = UtfStr<'a, C>>>(
         &mut self,
         items: U,
@@ -246,6 +271,14 @@ impl<C: FaultUnit, A: Allocator> UtfString<C, A> {
     /// # Errors
     ///
     /// The allocation for an item failed. The error is the string of the items before it.
+    ///
+    /// # Example
+    ///
+    /// ```
+    /// let words = ["é", "", "😀"];
+    /// let text = Utf16String::from_iter_strs(rt.alloc(), words)?;
+    /// assert!(rt; text.as_slice() == [0xe9, 0xd83d, 0xde00].as_slice());
+    /// ```
     pub fn from_iter_strs<'a, U: IntoIterator<Item = &'a str>>(
         alloc: A,
         items: U,
@@ -284,6 +317,15 @@ impl<C: FaultUnit, A: Allocator> UtfString<C, A> {
     /// # Errors
     ///
     /// The allocation for an item failed. The error is the string of the items before it.
+    ///
+    /// # Example
+    ///
+    /// ```
+    /// let line = Utf16Str::from_slice(&[0x20, 0xe9, 0x3000, 0x9, 0xd83d, 0xde00])?;
+    /// let words = line.split_whitespace();
+    /// let text = Utf16String::from_iter_utfstrs(rt.alloc(), words)?;
+    /// assert!(rt; text.as_utfstr().eq_str("é😀"));
+    /// ```
     pub fn from_iter_utfstrs<'a, U: IntoIterator<Item = UtfStr<'a, C>>>(
         alloc: A,
         items: U,

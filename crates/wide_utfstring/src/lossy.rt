@@ -143,6 +143,16 @@ impl<C: FaultUnit, A: Allocator> UtfString<C, A> {
     /// # Errors
     ///
     /// [`OutOfMemory`] if the allocation fails. It never fails if the units are well formed.
+    ///
+    /// # Example
+    ///
+    /// ```
+    /// let view = U16Str::from_slice(&[0x48, 0xdc00, 0xdc00, 0x69]);
+    /// let text = Utf16String::from_ustr_lossy_with(rt.alloc(), view, Policy::Run)?;
+    /// assert!(rt; text.as_utfstr().eq_str("H\u{fffd}i"));
+    /// let text = Utf16String::from_ustr_lossy_with(rt.alloc(), view, Policy::Skip)?;
+    /// assert!(rt; text.as_utfstr().eq_str("Hi"));
+    /// ```
     pub fn from_ustr_lossy_with<'a>(
         alloc: A,
         view: UStr<'a, C>,

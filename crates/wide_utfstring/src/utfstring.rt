@@ -329,6 +329,15 @@ impl<C: FaultUnit, A: Allocator> UtfString<C, A> {
     ///
     /// [`OutOfMemory`] if the allocation fails; the string is unchanged. It never fails if the string already has this
     /// capacity.
+    ///
+    /// # Example
+    ///
+    /// ```
+    /// let mut text = Utf16String::from_str(rt.alloc(), "é😀")?;
+    /// text.reserve(8)?;
+    /// assert!(rt; text.capacity() >= 11);
+    /// assert!(rt; text.as_utfstr().eq_str("é😀"));
+    /// ```
     pub fn reserve(&mut self, more: usize) -> Result<(), OutOfMemory>
         ensures units { self.new.units ≡ self.old.units }
         ensures space { OnOk result (HasSpaceFor self.new more) }
@@ -589,6 +598,17 @@ impl<C: FaultUnit, A: Allocator> UtfString<C, A> {
     /// # Errors
     ///
     /// [`OutOfMemory`] if the allocation fails or the allocator cannot be copied; the string is unchanged.
+    ///
+    /// # Example
+    ///
+    /// ```
+    /// let mut text = Utf16String::from_str(rt.alloc(), "Hi😀!")?;
+    /// if let Some(at) = text.as_utfstr().find_char('😀') {
+    ///     let rest = text.split_off(at)?;
+    ///     assert!(rt; rest.as_utfstr().eq_str("😀!"));
+    /// }
+    /// assert!(rt; text.as_utfstr().eq_str("Hi"));
+    /// ```
     pub fn split_off(&mut self, at: usize) -> Result<Self, OutOfMemory>
     where
         A: Clone,
