@@ -266,6 +266,66 @@ fn example_of_ucstr_trim(rt: HostRuntime) -> Result<(), Fail> {
 }
 
 #[test]
+fn example_of_ucstr_rsplit(rt: HostRuntime) -> Result<(), Fail> {
+    let path = U16CStr::from_slice(&[0x61, 0x2f, 0xd800, 0])?;
+    let mut parts = path.rsplit(U16CStr::from_slice(&[0x2f, 0])?);
+    assert!(rt; parts.next() == Some(U16Str::from_slice(&[0xd800])));
+    assert!(rt; parts.next() == Some(U16Str::from_slice(&[0x61])));
+    assert!(rt; parts.next().is_none());
+    Ok(())
+}
+
+#[test]
+fn example_of_ucstr_rsplit_char(rt: HostRuntime) -> Result<(), Fail> {
+    let path = U16CStr::from_slice(&[0x61, 0x2f, 0xd800, 0])?;
+    let mut parts = path.rsplit_char('/');
+    assert!(rt; parts.next() == Some(U16Str::from_slice(&[0xd800])));
+    assert!(rt; parts.next() == Some(U16Str::from_slice(&[0x61])));
+    assert!(rt; parts.next().is_none());
+    Ok(())
+}
+
+#[test]
+fn example_of_ucstr_rsplitn(rt: HostRuntime) -> Result<(), Fail> {
+    let path = U16CStr::from_slice(&[0x61, 0x2f, 0x62, 0x2f, 0x63, 0])?;
+    let mut parts = path.rsplitn(2, U16CStr::from_slice(&[0x2f, 0])?);
+    assert!(rt; parts.next() == Some(U16Str::from_slice(&[0x63])));
+    assert!(rt; parts.next() == Some(U16Str::from_slice(&[0x61, 0x2f, 0x62])));
+    assert!(rt; parts.next().is_none());
+    Ok(())
+}
+
+#[test]
+fn example_of_ucstr_rsplitn_char(rt: HostRuntime) -> Result<(), Fail> {
+    let name = U16CStr::from_slice(&[0x61, 0x2e, 0x62, 0x2e, 0x63, 0])?;
+    let mut parts = name.rsplitn_char(2, '.');
+    assert!(rt; parts.next() == Some(U16Str::from_slice(&[0x63])));
+    assert!(rt; parts.next() == Some(U16Str::from_slice(&[0x61, 0x2e, 0x62])));
+    assert!(rt; parts.next().is_none());
+    Ok(())
+}
+
+#[test]
+fn example_of_ucstr_split_inclusive(rt: HostRuntime) -> Result<(), Fail> {
+    let list = U16CStr::from_slice(&[0x61, 0x3b, 0xd800, 0])?;
+    let mut parts = list.split_inclusive(U16CStr::from_slice(&[0x3b, 0])?);
+    assert!(rt; parts.next() == Some(U16Str::from_slice(&[0x61, 0x3b])));
+    assert!(rt; parts.next() == Some(U16Str::from_slice(&[0xd800])));
+    assert!(rt; parts.next().is_none());
+    Ok(())
+}
+
+#[test]
+fn example_of_ucstr_split_inclusive_char(rt: HostRuntime) -> Result<(), Fail> {
+    let list = U16CStr::from_slice(&[0x61, 0x3b, 0xd800, 0x3b, 0])?;
+    let mut parts = list.split_inclusive_char(';');
+    assert!(rt; parts.next() == Some(U16Str::from_slice(&[0x61, 0x3b])));
+    assert!(rt; parts.next() == Some(U16Str::from_slice(&[0xd800, 0x3b])));
+    assert!(rt; parts.next().is_none());
+    Ok(())
+}
+
+#[test]
 fn example_of_ustrinucstr(rt: HostRuntime) -> Result<(), Fail> {
     let name = U16CStr::from_slice(&[0x48, 0x69, 0])?;
     assert!(rt; U16Str::from_slice(&[0x48, 0x69]).eq_ucstr(name));

@@ -1,7 +1,9 @@
 //! The examples of `widestring::ustr`.
 use std::test::Fail;
 use widestring::error::{DecodeUtf16Error, Utf16ConvertError, Utf32ConvertError};
-use widestring::ustr::{AnyOf, LineView, OneUnit, SplitN, SplitView, U16Str, U32Str};
+use widestring::ustr::{
+    AnyOf, BackView, InclusiveView, LineView, OneUnit, SplitN, SplitView, U16Str, U32Str,
+};
 use widestring::{Policy, U16String};
 
 #[test]
@@ -393,6 +395,68 @@ fn example_of_ustr_trim(rt: HostRuntime) -> Result<(), Fail> {
 }
 
 #[test]
+fn example_of_ustr_rsplit(rt: HostRuntime) -> Result<(), Fail> {
+    let path = U16Str::from_slice(&[0x61, 0x2f, 0xd800, 0x2f]);
+    let mut parts = path.rsplit(U16Str::from_slice(&[0x2f]));
+    assert!(rt; parts.next().is_some_and(|part| part.is_empty()));
+    assert!(rt; parts.next() == Some(U16Str::from_slice(&[0xd800])));
+    assert!(rt; parts.next() == Some(U16Str::from_slice(&[0x61])));
+    assert!(rt; parts.next().is_none());
+    Ok(())
+}
+
+#[test]
+fn example_of_ustr_rsplit_char(rt: HostRuntime) -> Result<(), Fail> {
+    let path = U16Str::from_slice(&[0x61, 0x2f, 0xd800]);
+    let mut parts = path.rsplit_char('/');
+    assert!(rt; parts.next() == Some(U16Str::from_slice(&[0xd800])));
+    assert!(rt; parts.next() == Some(U16Str::from_slice(&[0x61])));
+    assert!(rt; parts.next().is_none());
+    Ok(())
+}
+
+#[test]
+fn example_of_ustr_rsplitn(rt: HostRuntime) -> Result<(), Fail> {
+    let path = U16Str::from_slice(&[0x61, 0x2f, 0x62, 0x2f, 0x63]);
+    let mut parts = path.rsplitn(2, U16Str::from_slice(&[0x2f]));
+    assert!(rt; parts.next() == Some(U16Str::from_slice(&[0x63])));
+    assert!(rt; parts.next() == Some(U16Str::from_slice(&[0x61, 0x2f, 0x62])));
+    assert!(rt; parts.next().is_none());
+    Ok(())
+}
+
+#[test]
+fn example_of_ustr_rsplitn_char(rt: HostRuntime) -> Result<(), Fail> {
+    let name = U16Str::from_slice(&[0x61, 0x2e, 0x62, 0x2e, 0x63]);
+    let mut parts = name.rsplitn_char(2, '.');
+    assert!(rt; parts.next() == Some(U16Str::from_slice(&[0x63])));
+    assert!(rt; parts.next() == Some(U16Str::from_slice(&[0x61, 0x2e, 0x62])));
+    assert!(rt; parts.next().is_none());
+    Ok(())
+}
+
+#[test]
+fn example_of_ustr_split_inclusive(rt: HostRuntime) -> Result<(), Fail> {
+    let list = U16Str::from_slice(&[0x61, 0x3b, 0x3b, 0xd800]);
+    let mut parts = list.split_inclusive(U16Str::from_slice(&[0x3b]));
+    assert!(rt; parts.next() == Some(U16Str::from_slice(&[0x61, 0x3b])));
+    assert!(rt; parts.next() == Some(U16Str::from_slice(&[0x3b])));
+    assert!(rt; parts.next() == Some(U16Str::from_slice(&[0xd800])));
+    assert!(rt; parts.next().is_none());
+    Ok(())
+}
+
+#[test]
+fn example_of_ustr_split_inclusive_char(rt: HostRuntime) -> Result<(), Fail> {
+    let list = U16Str::from_slice(&[0x61, 0x3b, 0xd800, 0x3b]);
+    let mut parts = list.split_inclusive_char(';');
+    assert!(rt; parts.next() == Some(U16Str::from_slice(&[0x61, 0x3b])));
+    assert!(rt; parts.next() == Some(U16Str::from_slice(&[0xd800, 0x3b])));
+    assert!(rt; parts.next().is_none());
+    Ok(())
+}
+
+#[test]
 fn example_of_ustr_splitn(rt: HostRuntime) -> Result<(), Fail> {
     let setting = U16Str::from_slice(&[0x61, 0x3d, 0x62, 0x3d, 0x63]);
     let mut parts = setting.splitn(2, U16Str::from_slice(&[0x3d]));
@@ -570,9 +634,49 @@ fn example_of_anyof(rt: HostRuntime) -> Result<(), Fail> {
 }
 
 #[test]
+fn example_of_backview(rt: HostRuntime) -> Result<(), Fail> {
+    let path = U16Str::from_slice(&[0x61, 0x2f, 0x62, 0x2f, 0x63]);
+    let parts = path.cut_last('/');
+    assert!(rt; parts.is_some_and(|(folder, file)| folder.len() == 3 && file.len() == 1));
+    Ok(())
+}
+
+#[test]
+fn example_of_rsplit(rt: HostRuntime) -> Result<(), Fail> {
+    let path = U16Str::from_slice(&[0x43, 0x3a, 0x5c, 0x74, 0x5c, 0xe9]);
+    let mut parts = path.rsplit(U16Str::from_slice(&[0x5c]));
+    assert!(rt; parts.next() == Some(U16Str::from_slice(&[0xe9])));
+    Ok(())
+}
+
+#[test]
+fn example_of_rsplitn(rt: HostRuntime) -> Result<(), Fail> {
+    let path = U16Str::from_slice(&[0x61, 0x2f, 0x62, 0x2f, 0x63]);
+    let parts = path.rsplitn(2, U16Str::from_slice(&[0x2f]));
+    assert!(rt; parts.last().is_some_and(|folder| folder.len() == 3));
+    Ok(())
+}
+
+#[test]
 fn example_of_splitfilled(rt: HostRuntime) -> Result<(), Fail> {
     let line = U16Str::from_slice(&[0x20, 0x61, 0x9, 0x20, 0x62]);
     assert!(rt; line.split_whitespace().count() == 2);
+    Ok(())
+}
+
+#[test]
+fn example_of_inclusiveview(rt: HostRuntime) -> Result<(), Fail> {
+    let list = U16Str::from_slice(&[0x61, 0x3b, 0x62]);
+    let parts = list.cut_after(';');
+    assert!(rt; parts.is_some_and(|(first, rest)| first.len() == 2 && rest.len() == 1));
+    Ok(())
+}
+
+#[test]
+fn example_of_splitinclusive(rt: HostRuntime) -> Result<(), Fail> {
+    let list = U16Str::from_slice(&[0x61, 0x3b, 0x62, 0x3b]);
+    let parts = list.split_inclusive(U16Str::from_slice(&[0x3b]));
+    assert!(rt; parts.count() == 2);
     Ok(())
 }
 

@@ -555,6 +555,67 @@ fn example_of_utfstr_split_terminator_char(rt: HostRuntime) -> Result<(), Fail> 
 }
 
 #[test]
+fn example_of_utfstr_rsplit(rt: HostRuntime) -> Result<(), Fail> {
+    let list = Utf16Str::from_slice(&[0xe9, 0x2c, 0x20, 0xd83d, 0xde00])?;
+    let mut parts = list.rsplit(Utf16Str::from_slice(&[0x2c, 0x20])?);
+    assert!(rt; parts.next().is_some_and(|part| part.eq_str("😀")));
+    assert!(rt; parts.next().is_some_and(|part| part.eq_str("é")));
+    assert!(rt; parts.next().is_none());
+    Ok(())
+}
+
+#[test]
+fn example_of_utfstr_rsplit_char(rt: HostRuntime) -> Result<(), Fail> {
+    let path = Utf16Str::from_slice(&[0xe9, 0x2f, 0xd83d, 0xde00, 0x2f])?;
+    let mut parts = path.rsplit_char('/');
+    assert!(rt; parts.next().is_some_and(|part| part.is_empty()));
+    assert!(rt; parts.next().is_some_and(|part| part.eq_str("😀")));
+    assert!(rt; parts.next().is_some_and(|part| part.eq_str("é")));
+    assert!(rt; parts.next().is_none());
+    Ok(())
+}
+
+#[test]
+fn example_of_utfstr_rsplitn(rt: HostRuntime) -> Result<(), Fail> {
+    let list = Utf16Str::from_slice(&[0xe9, 0x2c, 0x61, 0x2c, 0x62])?;
+    let mut parts = list.rsplitn(2, Utf16Str::from_slice(&[0x2c])?);
+    assert!(rt; parts.next().is_some_and(|part| part.eq_str("b")));
+    assert!(rt; parts.next().is_some_and(|part| part.eq_str("é,a")));
+    assert!(rt; parts.next().is_none());
+    Ok(())
+}
+
+#[test]
+fn example_of_utfstr_rsplitn_char(rt: HostRuntime) -> Result<(), Fail> {
+    let name = Utf16Str::from_slice(&[0xe9, 0x2e, 0x61, 0x2e, 0x62])?;
+    let mut parts = name.rsplitn_char(2, '.');
+    assert!(rt; parts.next().is_some_and(|part| part.eq_str("b")));
+    assert!(rt; parts.next().is_some_and(|part| part.eq_str("é.a")));
+    assert!(rt; parts.next().is_none());
+    Ok(())
+}
+
+#[test]
+fn example_of_utfstr_split_inclusive(rt: HostRuntime) -> Result<(), Fail> {
+    let list = Utf16Str::from_slice(&[0xe9, 0x2c, 0x20, 0xd83d, 0xde00])?;
+    let mut parts = list.split_inclusive(Utf16Str::from_slice(&[0x2c, 0x20])?);
+    assert!(rt; parts.next().is_some_and(|part| part.eq_str("é, ")));
+    assert!(rt; parts.next().is_some_and(|part| part.eq_str("😀")));
+    assert!(rt; parts.next().is_none());
+    Ok(())
+}
+
+#[test]
+fn example_of_utfstr_split_inclusive_char(rt: HostRuntime) -> Result<(), Fail> {
+    let lines = Utf16Str::from_slice(&[0xe9, 0xa, 0xd83d, 0xde00, 0xa])?;
+    let mut parts = lines.split_inclusive_char('\n');
+    assert!(rt; parts.next().is_some_and(|part| part.eq_str("é\n")));
+    assert!(rt; parts.next().is_some_and(|part| part.eq_str("😀\n")));
+    assert!(rt; parts.next().is_none());
+    Ok(())
+}
+
+#[test]
 fn example_of_escapeunicode(rt: HostRuntime) -> Result<(), Fail> {
     let escaped = Utf16Str::from_slice(&[0x48, 0xd83d, 0xde00])?.escape_unicode();
     let text = escaped.to_string(rt.alloc())?;

@@ -113,10 +113,11 @@ pub mod unit_laws {
 
 pub mod ustr {
     pub use widestring::ustr::{
-        AnyOf, CharIndices, CharIndicesLossy, CharIndicesLossyUtf16, CharIndicesLossyUtf32,
-        CharIndicesUtf16, CharIndicesUtf32, Chars, CharsLossy, CharsLossyUtf16, CharsLossyUtf32,
-        CharsLossyWith, CharsUtf16, CharsUtf32, Display, DisplaySkipping, LineIndices, LineView,
-        Lines, NeedleView, OneUnit, Split, SplitFilled, SplitN, SplitTerminator, SplitView, U16Str,
+        AnyOf, BackView, CharIndices, CharIndicesLossy, CharIndicesLossyUtf16,
+        CharIndicesLossyUtf32, CharIndicesUtf16, CharIndicesUtf32, Chars, CharsLossy,
+        CharsLossyUtf16, CharsLossyUtf32, CharsLossyWith, CharsUtf16, CharsUtf32, Display,
+        DisplaySkipping, InclusiveView, LineIndices, LineView, Lines, NeedleView, OneUnit, RSplit,
+        RSplitN, Split, SplitFilled, SplitInclusive, SplitN, SplitTerminator, SplitView, U16Str,
         U32Str, UStr, WideChar, WideStr, after_faults,
     };
 }
