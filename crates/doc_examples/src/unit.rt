@@ -3,7 +3,7 @@ use std::test::Fail;
 use widestring::U16Str;
 use widestring::unit::{
     AnyUnits, FirstFault, Policy, Unit, ascii_lowercase, ascii_uppercase, check, common_prefix,
-    common_prefix_ignore_ascii_case, first_nul,
+    common_prefix_ignore_ascii_case, first_nul, length_as_utf16, length_as_utf32,
 };
 
 #[test]
@@ -11,6 +11,13 @@ fn example_of_unit(rt: HostRuntime) -> Result<(), Fail> {
     assert!(rt; u16::encode_char('😀') == (0xd83d, Some(0xde00)));
     assert!(rt; 0xd83du16.is_high() && 0xde00u16.is_low());
     assert!(rt; 0xd83du16.pair_scalar(0xde00) == Some('😀'));
+    Ok(())
+}
+
+#[test]
+fn example_of_unit_char_len(rt: HostRuntime) -> Result<(), Fail> {
+    assert!(rt; u16::char_len('😀') == 2);
+    assert!(rt; u32::char_len('😀') == 1);
     Ok(())
 }
 
@@ -62,6 +69,18 @@ fn example_of_first_nul(rt: HostRuntime) -> Result<(), Fail> {
 fn example_of_common_prefix(rt: HostRuntime) -> Result<(), Fail> {
     let shared = common_prefix(&[0x61u16, 0x62, 0x63], &[0x61, 0x62, 0x64, 0x65]);
     assert!(rt; shared == 2);
+    Ok(())
+}
+
+#[test]
+fn example_of_length_as_utf16(rt: HostRuntime) -> Result<(), Fail> {
+    assert!(rt; length_as_utf16("a😀") == 3);
+    Ok(())
+}
+
+#[test]
+fn example_of_length_as_utf32(rt: HostRuntime) -> Result<(), Fail> {
+    assert!(rt; length_as_utf32("a😀") == 2);
     Ok(())
 }
 

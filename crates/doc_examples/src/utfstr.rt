@@ -85,6 +85,14 @@ fn example_of_utfstr_char_indices(rt: HostRuntime) -> Result<(), Fail> {
 }
 
 #[test]
+fn example_of_utfstr_encode_utf8(rt: HostRuntime) -> Result<(), Fail> {
+    let text = Utf16Str::from_slice(&[0xe9, 0xd83d, 0xde00])?;
+    assert!(rt; text.encode_utf8().next() == Some(0xc3));
+    assert!(rt; text.encode_utf8().count() == 6);
+    Ok(())
+}
+
+#[test]
 fn example_of_utfstr_from_slice(rt: HostRuntime) -> Result<(), Fail> {
     assert!(rt; Utf16Str::from_slice(&[0xd83d, 0xde00]).is_ok());
     let fault = Utf16Str::from_slice(&[0xd83d, 0xde00, 0xdc00]).err();

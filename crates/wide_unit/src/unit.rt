@@ -50,6 +50,15 @@ pub trait Unit: Copy {
     const MAX_CHAR_LEN: usize;
 
     /// Returns the length of a character in units: 1 or 2 in UTF-16, 1 in UTF-32.
+    ///
+    /// # Example
+    ///
+    /// ```
+    /// use widestring::unit::Unit;
+    ///
+    /// assert!(rt; u16::char_len('😀') == 2);
+    /// assert!(rt; u32::char_len('😀') == 1);
+    /// ```
     fn char_len(c: char) -> usize
         ensures value { result ≡ length (code_units form c) }
         ensures bound { result ≤ MAX_CHAR_LEN };

@@ -120,6 +120,12 @@ fn count_all<T: Count>(bytes: &[u8]) -> usize
 /// Returns the length of a text in units of UTF-16 (Unicode Standard, D91).
 ///
 /// It reads the bytes once, in vectorized steps, and does not allocate.
+///
+/// # Example
+///
+/// ```
+/// assert!(rt; length_as_utf16("a😀") == 3);
+/// ```
 pub fn length_as_utf16(text: &str) -> usize
     ensures { result ≡ length (encode Utf16 (chars text.now)) }
 {
@@ -129,6 +135,12 @@ pub fn length_as_utf16(text: &str) -> usize
 /// Returns the length of a text in units of UTF-32, which is its number of characters (Unicode Standard, D90).
 ///
 /// It reads the bytes once, in vectorized steps, and does not allocate.
+///
+/// # Example
+///
+/// ```
+/// assert!(rt; length_as_utf32("a😀") == 2);
+/// ```
 pub fn length_as_utf32(text: &str) -> usize
     ensures units { result ≡ length (encode Utf32 (chars text.now)) }
     ensures characters { result ≡ length (chars text.now) }
