@@ -323,8 +323,9 @@ impl<'a, C: Unit> UtfStr<'a, C> {
     ///
     /// ```
     /// let text = Utf16Str::from_slice(&[0xe9, 0xd83d, 0xde00])?;
-    /// assert!(rt; text.encode_utf8().next() == Some(0xc3));
-    /// assert!(rt; text.encode_utf8().count() == 6);
+    /// let mut bytes = text.encode_utf8();
+    /// assert!(rt; bytes.next() == Some(0xc3));
+    /// assert!(rt; bytes.next() == Some(0xa9));
     /// ```
     pub fn encode_utf8(self) -> EncodeUtf8<Chars<'a, C>>
         ensures { bytes_left (chars_left C.form C.number) result ≡ utf8 (text_seen self.entry) }
