@@ -30,7 +30,7 @@ ORDER = {
     "ustring": "ustring compare display cow boxed iter",
     "utfstr": "view text trim lines search boundaries escapes display",
     "utfstring": "utfstring compare display cow boxed lossy convert iter",
-    "unit": "unit policy any_units range split nul first lanes line compare validation print utf8",
+    "unit": "unit policy any_units range split nul first lanes line compare order validation print utf8",
     "search": "units",
     "bytes": "order mode",
     "edit": "edits text_edit lockstep utf marked",

@@ -1,9 +1,11 @@
 //! The examples of `widestring::unit`.
+use std::cmp::Ordering;
 use std::test::Fail;
 use widestring::U16Str;
 use widestring::unit::{
-    AnyUnits, FirstFault, Policy, Unit, ascii_lowercase, ascii_uppercase, check, common_prefix,
-    common_prefix_ignore_ascii_case, first_nul, length_as_utf16, length_as_utf32,
+    AnyUnits, FirstFault, Policy, Unit, ascii_lowercase, ascii_uppercase, check, cmp_code_points,
+    common_prefix, common_prefix_ignore_ascii_case, first_nul, length_as_utf16, length_as_utf32,
+    order_of_units,
 };
 
 #[test]
@@ -69,6 +71,15 @@ fn example_of_first_nul(rt: HostRuntime) -> Result<(), Fail> {
 fn example_of_common_prefix(rt: HostRuntime) -> Result<(), Fail> {
     let shared = common_prefix(&[0x61u16, 0x62, 0x63], &[0x61, 0x62, 0x64, 0x65]);
     assert!(rt; shared == 2);
+    Ok(())
+}
+
+#[test]
+fn example_of_cmp_code_points(rt: HostRuntime) -> Result<(), Fail> {
+    let (emoji, letter) = ([0x61u16, 0xd83d, 0xde00], [0x61u16, 0xff21]);
+    assert!(rt; order_of_units(&emoji, &letter) == Ordering::Less);
+    assert!(rt; cmp_code_points(&emoji, &letter) == Ordering::Greater);
+    assert!(rt; cmp_code_points(&emoji[..2], &letter) == Ordering::Less);
     Ok(())
 }
 

@@ -10,6 +10,8 @@ pub mod CharBoundaries
 mod Feeds
 pub mod LineOffsets
 mod Ordered
+pub mod Skipped
+pub mod CodePoints
 pub mod Printed
 pub mod Kept
 pub mod Debugged

@@ -1,5 +1,6 @@
 pub mod LeadingByte
 pub mod CommonPrefix
+pub mod CodePoints
 pub mod Unit
 pub mod AnyUnits
 pub mod Nul

@@ -15,6 +15,7 @@ pub use Rattle.wide_forms.specs.Utf8
 pub use Rattle.wide_forms.specs.CodePoint
 pub use Rattle.wide_forms.specs.Searches
 pub use Rattle.wide_unit.specs.CommonPrefix
+pub use Rattle.wide_unit.specs.CodePoints
 pub use Rattle.wide_forms.specs.Statements
 pub use Rattle.wide_search.specs.Occurrences
 pub use Rattle.wide_search.specs.Lowercased

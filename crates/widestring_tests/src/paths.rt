@@ -94,10 +94,10 @@ pub mod ucstring {
 pub mod unit {
     pub use widestring::unit::{
         AnyUnits, FirstFault, LossyProgress, Policy, Unit, ascii_lowercase, ascii_uppercase,
-        char_of, check, common_prefix, common_prefix_ignore_ascii_case, find_fault,
-        first_no_scalar, first_nul, first_of, first_surrogate, length_as_utf16, length_as_utf32,
-        next_code_point, order_of_units, put_char, range_check, same_units, split_first,
-        split_last, split_line, valid_len, write_escape,
+        char_of, check, cmp_code_points, common_prefix, common_prefix_ignore_ascii_case,
+        find_fault, first_no_scalar, first_nul, first_of, first_surrogate, length_as_utf16,
+        length_as_utf32, next_code_point, order_of_units, put_char, range_check, same_units,
+        split_first, split_last, split_line, valid_len, write_escape,
     };
 }
 
