@@ -203,6 +203,10 @@ TO(utf8_to_utf16_lossy, uint8_t, uint16_t)
 TO(utf8_to_utf32_lossy, uint8_t, uint32_t)
 TO(utf16_repair, uint16_t, uint16_t)
 TO(utf32_repair, uint32_t, uint32_t)
+TO(utf16_to_ascii_lowercase, uint16_t, uint16_t)
+TO(utf32_to_ascii_lowercase, uint32_t, uint32_t)
+TO(utf16_to_ascii_uppercase, uint16_t, uint16_t)
+TO(utf32_to_ascii_uppercase, uint32_t, uint32_t)
 WITH(utf16_to_utf8_lossy_with, uint16_t, uint8_t)
 WITH(utf32_to_utf8_lossy_with, uint32_t, uint8_t)
 WITH(utf8_to_utf16_lossy_with, uint8_t, uint16_t)
@@ -240,6 +244,14 @@ static const struct conversion {
     {"wide_utf8_to_utf32_lossy_with", call_utf8_to_utf32_lossy_with, 1, 4, WIDE_EACH, WIDE_SKIP + 1},
 };
 
+/* The functions that write ASCII letters in the other case, those for lower case first. */
+static const struct conversion cases[] = {
+    {"wide_utf16_to_ascii_lowercase", call_utf16_to_ascii_lowercase, 2, 2, 0, 0},
+    {"wide_utf32_to_ascii_lowercase", call_utf32_to_ascii_lowercase, 4, 4, 0, 0},
+    {"wide_utf16_to_ascii_uppercase", call_utf16_to_ascii_uppercase, 2, 2, 1, 1},
+    {"wide_utf32_to_ascii_uppercase", call_utf32_to_ascii_uppercase, 4, 4, 1, 1},
+};
+
 /* The conversions of UTF-16 in bytes. Both read the byte order from `order`, and the lossy one reads `fault_before`. */
 static const struct conversion strict_bytes = {"wide_utf16_bytes_to_utf8", call_utf16_bytes_to_utf8, 2, 1, -1, -1};
 static const struct conversion lossy_bytes = {"wide_utf16_bytes_to_utf8_lossy_with", call_utf16_bytes_to_utf8_lossy_with, 2, 1, WIDE_EACH, WIDE_SKIP + 1};
@@ -266,18 +278,23 @@ static void check_buffer(const struct conversion *it, const void *from, size_t l
             fail("written outside");
 }
 
+/* Calls a function with buffers that fit exactly, are longer, shorter and empty. */
+static void check_buffers(const struct conversion *it, const void *from, size_t length, int policy, const struct wanted *wanted, unsigned char *end) {
+    size_t exact = wanted->text.length;
+    seen_call = it->name;
+    check_buffer(it, from, length, policy, wanted, end, exact, 0);
+    check_buffer(it, from, length, policy, wanted, end, exact, 1 + random_below(70));
+    check_buffer(it, from, length, policy, wanted, end, exact + 1 + random_below(70), 0);
+    check_buffer(it, from, length, policy, wanted, end, 0, 3);
+    if (exact > 0)
+        check_buffer(it, from, length, policy, wanted, end, random_below((uint32_t)exact), 70);
+}
+
 static void check_conversion(const struct conversion *it, const void *from, size_t length, const struct items *items, unsigned char *end) {
     static struct wanted wanted;
-    seen_call = it->name;
     for (int policy = it->first; policy <= it->last; policy++) {
         convert(items, it->to, policy, &wanted);
-        size_t exact = wanted.text.length;
-        check_buffer(it, from, length, policy, &wanted, end, exact, 0);
-        check_buffer(it, from, length, policy, &wanted, end, exact, 1 + random_below(70));
-        check_buffer(it, from, length, policy, &wanted, end, exact + 1 + random_below(70), 0);
-        check_buffer(it, from, length, policy, &wanted, end, 0, 3);
-        if (exact > 0)
-            check_buffer(it, from, length, policy, &wanted, end, random_below((uint32_t)exact), 70);
+        check_buffers(it, from, length, policy, &wanted, end);
     }
 }
 
@@ -322,6 +339,34 @@ static size_t offset_of(const struct text *text, const struct text *needle) {
     return SIZE_MAX;
 }
 
+/* Returns the last offset at which the needle occurs in a text, or SIZE_MAX. */
+static size_t last_offset_of(const struct text *text, const struct text *needle) {
+    for (size_t at = text->length + 1; at-- > 0;)
+        if (at + needle->length <= text->length && memcmp(&text->element[at], needle->element, needle->length * sizeof needle->element[0]) == 0)
+            return at;
+    return SIZE_MAX;
+}
+
+/* Makes a text with each ASCII letter in lower case, or in upper case. */
+static void change_case(const struct text *text, int is_upper, struct text *changed) {
+    const uint32_t first = is_upper ? 'a' : 'A';
+    changed->width = text->width;
+    changed->length = text->length;
+    for (size_t at = 0; at < text->length; at++) {
+        uint32_t element = text->element[at];
+        changed->element[at] = element >= first && element < first + 26 ? element ^ 0x20 : element;
+    }
+}
+
+/* Changes the case of some letters, and in some texts one element. */
+static void change_letters(struct text *text) {
+    for (size_t at = 0; at < text->length; at++)
+        if (random_below(2) == 0 && (text->element[at] | 0x20) >= 'a' && (text->element[at] | 0x20) <= 'z')
+            text->element[at] ^= 0x20;
+    if (text->length > 0 && random_below(3) == 0)
+        text->element[random_below((uint32_t)text->length)] ^= 0x20;
+}
+
 /* Makes a needle of a substring of the text; in some of them one unit is changed. */
 static void cut_needle(const struct text *text, struct text *needle) {
     size_t first = random_below((uint32_t)text->length + 1), left = text->length - first;
@@ -344,10 +389,45 @@ static void check_searches(const void *from, const struct text *text, unsigned c
         equal("wide_utf16_first_nul", wide_utf16_first_nul(from, n), zero < n ? zero : n);
         equal("wide_utf16_find_unit", wide_utf16_find_unit(from, n, (uint16_t)one.element[0]), offset < n ? offset : n);
         equal("wide_utf16_find", wide_utf16_find(from, n, needle_units, needle.length), offset_of(text, &needle));
+        equal("wide_utf16_rfind", wide_utf16_rfind(from, n, needle_units, needle.length), last_offset_of(text, &needle));
     } else {
         equal("wide_utf32_first_nul", wide_utf32_first_nul(from, n), zero < n ? zero : n);
         equal("wide_utf32_find_unit", wide_utf32_find_unit(from, n, one.element[0]), offset < n ? offset : n);
         equal("wide_utf32_find", wide_utf32_find(from, n, needle_units, needle.length), offset_of(text, &needle));
+        equal("wide_utf32_rfind", wide_utf32_rfind(from, n, needle_units, needle.length), last_offset_of(text, &needle));
+    }
+}
+
+/* Checks searches and comparisons without regard to case, and the functions that write letters in the other case. */
+static void check_cases(const void *from, const struct text *text, unsigned char *ends[3]) {
+    static struct text lower, needle, lower_needle, other, lower_other;
+    static struct wanted changed;
+    size_t n = text->length;
+    change_case(text, 0, &lower);
+    cut_needle(text, &needle);
+    change_letters(&needle);
+    change_case(&needle, 0, &lower_needle);
+    other = *text;
+    change_letters(&other);
+    change_case(&other, 0, &lower_other);
+    size_t offset = offset_of(&lower, &lower_needle), is_needle = offset == 0 && n == needle.length;
+    size_t is_same = memcmp(lower.element, lower_other.element, n * sizeof lower.element[0]) == 0;
+    const void *needle_units = at_edge(ends[1], &needle);
+    if (text->width == 2) {
+        equal("wide_utf16_find_ignore_ascii_case", wide_utf16_find_ignore_ascii_case(from, n, needle_units, needle.length), offset);
+        equal("wide_utf16_eq_ignore_ascii_case", wide_utf16_eq_ignore_ascii_case(from, n, needle_units, needle.length), is_needle);
+        equal("wide_utf16_eq_ignore_ascii_case", wide_utf16_eq_ignore_ascii_case(from, n, at_edge(ends[1], &other), n), is_same);
+    } else {
+        equal("wide_utf32_find_ignore_ascii_case", wide_utf32_find_ignore_ascii_case(from, n, needle_units, needle.length), offset);
+        equal("wide_utf32_eq_ignore_ascii_case", wide_utf32_eq_ignore_ascii_case(from, n, needle_units, needle.length), is_needle);
+        equal("wide_utf32_eq_ignore_ascii_case", wide_utf32_eq_ignore_ascii_case(from, n, at_edge(ends[1], &other), n), is_same);
+    }
+    for (size_t at = 0; at < sizeof cases / sizeof cases[0]; at++) {
+        if (cases[at].from != text->width)
+            continue;
+        change_case(text, cases[at].first, &changed.text);
+        changed.result = n;
+        check_buffers(&cases[at], from, n, cases[at].first, &changed, ends[2]);
     }
 }
 
@@ -440,6 +520,37 @@ static uint32_t random_element(int width) {
     return width == 2 ? random_below(0x10000) : random_below(2) == 0 ? 0x110000 + random_below(0x10000) : random_below(0x7fffffff) * 2 + 1;
 }
 
+/* Returns the order of two texts by their items, where a fault counts by its unit. */
+static int order_of(const struct text *text, const struct items *items, const struct text *other, const struct items *other_items) {
+    for (size_t at = 0; at < items->count && at < other_items->count; at++) {
+        uint32_t left = items->item[at] != FAULT ? items->item[at] : text->element[items->offset[at]];
+        uint32_t right = other_items->item[at] != FAULT ? other_items->item[at] : other->element[other_items->offset[at]];
+        if (left != right)
+            return left < right ? -1 : 1;
+    }
+    return items->count == other_items->count ? 0 : items->count < other_items->count ? -1 : 1;
+}
+
+/* Checks comparisons with a text that differs from some element on, or does not. */
+static void check_order(const void *from, const struct text *text, const struct items *items, unsigned char *end) {
+    static struct text other;
+    static struct items other_items;
+    other = *text;
+    if (other.length > 0 && random_below(4) > 0) {
+        size_t at = random_below((uint32_t)other.length);
+        other.element[at] = random_below(2) == 0 ? random_element(text->width) : other.element[at] ^ 1;
+    }
+    if (random_below(4) == 0)
+        other.length = random_below((uint32_t)other.length + 1);
+    decode(&other, &other_items);
+    const void *units = at_edge(end, &other);
+    size_t n = text->length, wanted = (size_t)order_of(text, items, &other, &other_items);
+    if (text->width == 2)
+        equal("wide_utf16_compare_code_points", (size_t)wide_utf16_compare_code_points(from, n, units, other.length), wanted);
+    else
+        equal("wide_utf32_compare_code_points", (size_t)wide_utf32_compare_code_points(from, n, units, other.length), wanted);
+}
+
 static void make_text(struct text *text, int width) {
     size_t most = random_below(64) == 0 ? MOST - 4 : random_below(16) == 0 ? 508 : random_below(8) == 0 ? 80 : 20;
     size_t length = random_below((uint32_t)most);
@@ -463,8 +574,11 @@ static void check_text(int width, unsigned char *ends[3]) {
     decode(&text, &items);
     const void *from = at_edge(ends[0], &text);
     check_counts(from, &text, &items);
-    if (width > 1)
+    if (width > 1) {
         check_searches(from, &text, ends[1]);
+        check_cases(from, &text, ends);
+        check_order(from, &text, &items, ends[1]);
+    }
     for (size_t at = 0; at < sizeof conversions / sizeof conversions[0]; at++)
         if (conversions[at].from == width)
             check_conversion(&conversions[at], from, text.length, &items, ends[2]);

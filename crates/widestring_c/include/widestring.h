@@ -1,5 +1,5 @@
 /*
- * Conversions, checks and searches of UTF-16, UTF-32 and UTF-8 for C programs. The caller supplies all buffers.
+ * Conversions, checks, searches and comparisons of UTF-16, UTF-32 and UTF-8 for C programs. The caller supplies all buffers.
  *
  * For all input, well formed or not, each function is proved to do what its comment says, except how long it takes, if
  * the caller keeps these rules. The functions do not check the rules:
@@ -48,9 +48,10 @@ uint32_t wide_version(void);
 #define WIDE_FAULT SIZE_MAX
 
 /*
- * What wide_utf16_find and wide_utf32_find return if the needle does not occur, and what wide_utf16_first_fault_item
- * and wide_utf32_first_fault_item return if the text is well formed. The searches for a NUL or for one unit return
- * `length` if there is none. WIDE_NOT_FOUND is the same number as WIDE_FAULT; no function returns both.
+ * What the searches for a needle return if it does not occur, which are wide_utf16_find, wide_utf16_rfind and
+ * wide_utf16_find_ignore_ascii_case and those of UTF-32, and what wide_utf16_first_fault_item and
+ * wide_utf32_first_fault_item return if the text is well formed. The searches for a NUL or for one unit return `length`
+ * if there is none. WIDE_NOT_FOUND is the same number as WIDE_FAULT; no function returns both.
  */
 #define WIDE_NOT_FOUND SIZE_MAX
 
@@ -135,6 +136,37 @@ size_t wide_utf32_find_unit(const uint32_t *units, size_t length, uint32_t unit)
  */
 size_t wide_utf16_find(const uint16_t *units, size_t length, const uint16_t *needle, size_t needle_length);
 size_t wide_utf32_find(const uint32_t *units, size_t length, const uint32_t *needle, size_t needle_length);
+
+/*
+ * Returns the offset of the last occurrence of the needle, or WIDE_NOT_FOUND if it does not occur. An empty needle
+ * occurs at the end, at offset `length`. The time grows at most linearly with both lengths.
+ */
+size_t wide_utf16_rfind(const uint16_t *units, size_t length, const uint16_t *needle, size_t needle_length);
+size_t wide_utf32_rfind(const uint32_t *units, size_t length, const uint32_t *needle, size_t needle_length);
+
+/*
+ * Returns the offset of the first occurrence of the needle without regard to the case of ASCII letters, or
+ * WIDE_NOT_FOUND if it does not occur. Letters past ASCII are compared as they are. An empty needle occurs at offset 0.
+ * The time grows at most linearly with both lengths.
+ */
+size_t wide_utf16_find_ignore_ascii_case(const uint16_t *units, size_t length, const uint16_t *needle, size_t needle_length);
+size_t wide_utf32_find_ignore_ascii_case(const uint32_t *units, size_t length, const uint32_t *needle, size_t needle_length);
+
+/*
+ * Returns 1 if both texts have the same units without regard to the case of ASCII letters, and 0 if they do not. Letters
+ * past ASCII are compared as they are.
+ */
+uint32_t wide_utf16_eq_ignore_ascii_case(const uint16_t *units, size_t length, const uint16_t *other, size_t other_length);
+uint32_t wide_utf32_eq_ignore_ascii_case(const uint32_t *units, size_t length, const uint32_t *other, size_t other_length);
+
+/*
+ * Compares two texts by their code points, as UTF-8 is ordered by its bytes and UTF-32 by its units. Returns -1 if the
+ * first text is less than the other one, 0 if both are the same, and 1 if the first one is greater. A text is less than
+ * a longer one that begins with it. An ill-formed unit counts by its number: an unpaired surrogate is a code point too.
+ * The units of UTF-16 are in another order, in which characters past U+FFFF precede U+E000 to U+FFFF.
+ */
+int32_t wide_utf16_compare_code_points(const uint16_t *units, size_t length, const uint16_t *other, size_t other_length);
+int32_t wide_utf32_compare_code_points(const uint32_t *units, size_t length, const uint32_t *other, size_t other_length);
 
 /*
  * Each function below that takes a capacity returns the length of the whole result in elements, whatever the capacity
@@ -261,6 +293,15 @@ size_t wide_utf8_to_utf32_lossy_with(const uint8_t *text, size_t length, uint32_
  */
 size_t wide_utf16_repair(const uint16_t *units, size_t length, uint16_t *repaired, size_t capacity);
 size_t wide_utf32_repair(const uint32_t *units, size_t length, uint32_t *repaired, size_t capacity);
+
+/*
+ * Copies the units, and writes each ASCII letter in lower case, or in upper case. All other units are copied as they
+ * are, also ill-formed ones. The length of the result is `length`.
+ */
+size_t wide_utf16_to_ascii_lowercase(const uint16_t *units, size_t length, uint16_t *lower, size_t capacity);
+size_t wide_utf32_to_ascii_lowercase(const uint32_t *units, size_t length, uint32_t *lower, size_t capacity);
+size_t wide_utf16_to_ascii_uppercase(const uint16_t *units, size_t length, uint16_t *upper, size_t capacity);
+size_t wide_utf32_to_ascii_uppercase(const uint32_t *units, size_t length, uint32_t *upper, size_t capacity);
 
 #ifdef __cplusplus
 }

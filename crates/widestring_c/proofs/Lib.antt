@@ -5,4 +5,5 @@ mod Fits
 mod Pairs
 mod ChunkUnits
 mod Repaired
+mod Signs
 mod Windows

@@ -1,3 +1,4 @@
 pub mod Buffers
 pub mod Bytes
+pub mod Compared
 pub mod Policies

@@ -13,6 +13,10 @@ mod bytes;
 #[cfg(test)]
 mod bytes_cases;
 mod caller_buffer;
+mod case;
+mod compare;
+#[cfg(test)]
+mod compare_cases;
 pub mod examples;
 mod from_utf8;
 pub mod laws;
@@ -32,6 +36,14 @@ pub use bytes::{
     wide_utf16_bytes_complete, wide_utf16_bytes_end_in_fault, wide_utf16_bytes_first_fault,
     wide_utf16_bytes_order, wide_utf16_bytes_to_utf8, wide_utf16_bytes_to_utf8_lossy_with,
 };
+pub use case::{
+    wide_utf16_to_ascii_lowercase, wide_utf16_to_ascii_uppercase, wide_utf32_to_ascii_lowercase,
+    wide_utf32_to_ascii_uppercase,
+};
+pub use compare::{
+    wide_utf16_compare_code_points, wide_utf16_eq_ignore_ascii_case,
+    wide_utf32_compare_code_points, wide_utf32_eq_ignore_ascii_case,
+};
 pub use from_utf8::{
     wide_utf8_first_fault, wide_utf8_to_utf16, wide_utf8_to_utf16_lossy,
     wide_utf8_to_utf16_lossy_with, wide_utf8_to_utf32, wide_utf8_to_utf32_lossy,
@@ -44,9 +56,10 @@ pub use lengths::{
 };
 pub use repair::{wide_utf16_repair, wide_utf32_repair};
 pub use search::{
-    wide_utf16_find, wide_utf16_find_unit, wide_utf16_first_fault, wide_utf16_first_fault_item,
-    wide_utf16_first_nul, wide_utf32_find, wide_utf32_find_unit, wide_utf32_first_fault,
-    wide_utf32_first_fault_item, wide_utf32_first_nul,
+    wide_utf16_find, wide_utf16_find_ignore_ascii_case, wide_utf16_find_unit,
+    wide_utf16_first_fault, wide_utf16_first_fault_item, wide_utf16_first_nul, wide_utf16_rfind,
+    wide_utf32_find, wide_utf32_find_ignore_ascii_case, wide_utf32_find_unit,
+    wide_utf32_first_fault, wide_utf32_first_fault_item, wide_utf32_first_nul, wide_utf32_rfind,
 };
 pub use to_utf8::{
     wide_utf16_to_utf8, wide_utf16_to_utf8_lossy, wide_utf16_to_utf8_lossy_with,

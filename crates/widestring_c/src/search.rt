@@ -3,9 +3,10 @@ ghost use Rattle.std.specs.Prelude.{◌≡◌, ◌<◌, ◌≤◌, ◌-◌, ◌^
 ghost use Rattle.wide_forms.specs.EncodingForm.{Utf16, Utf32};
 ghost use Rattle.wide_forms.specs.Items.{IsFirstFault, IsWellFormed};
 ghost use Rattle.wide_unit.specs.Nul.{HasNoNul, IsFirstNul};
-ghost use Rattle.wide_search.specs.Occurrences.{IsFirstAt, OccursNowhere};
+ghost use Rattle.wide_search.specs.Lowercased.{lowercased};
+ghost use Rattle.wide_search.specs.Occurrences.{IsFirstAt, IsLastAt, OccursNowhere};
 
-use wide_search::{find, find_unit};
+use wide_search::{find, find_ignore_ascii_case, find_unit, rfind};
 use wide_unit::{check, find_fault, first_nul};
 
 /// Returns the offset of the first fault of UTF-16 (Unicode Standard, D91), or the length if the units are well formed.
@@ -100,6 +101,26 @@ pub extern "C" fn wide_utf16_find(units: &[u16], part: &[u16]) -> usize
     find(units, part).unwrap_or(usize::MAX)
 }
 
+/// Returns the offset of the last occurrence of the needle in UTF-16, or `usize::MAX` if it does not occur. An empty
+/// needle occurs at the end.
+#[unsafe(no_mangle)]
+pub extern "C" fn wide_utf16_rfind(units: &[u16], part: &[u16]) -> usize
+    ensures last { result < 2 ^ 64 - 1 → IsLastAt part.now units.now result }
+    ensures none { result ≡ 2 ^ 64 - 1 → OccursNowhere part.now units.now }
+{
+    rfind(units, part).unwrap_or(usize::MAX)
+}
+
+/// Returns the offset of the first occurrence of the needle in UTF-16 without regard to the case of ASCII letters, or
+/// `usize::MAX` if it does not occur. An empty needle occurs at offset 0.
+#[unsafe(no_mangle)]
+pub extern "C" fn wide_utf16_find_ignore_ascii_case(units: &[u16], part: &[u16]) -> usize
+    ensures first { result < 2 ^ 64 - 1 → IsFirstAt (lowercased part.now) (lowercased units.now) result }
+    ensures none { result ≡ 2 ^ 64 - 1 → OccursNowhere (lowercased part.now) (lowercased units.now) }
+{
+    find_ignore_ascii_case(units, part).unwrap_or(usize::MAX)
+}
+
 /// Returns the offset of the first unit of UTF-32 that equals `unit`, or the length if there is none.
 #[unsafe(no_mangle)]
 pub extern "C" fn wide_utf32_find_unit(units: &[u32], unit: u32) -> usize
@@ -118,4 +139,24 @@ pub extern "C" fn wide_utf32_find(units: &[u32], part: &[u32]) -> usize
     ensures none { result ≡ 2 ^ 64 - 1 → OccursNowhere part.now units.now }
 {
     find(units, part).unwrap_or(usize::MAX)
+}
+
+/// Returns the offset of the last occurrence of the needle in UTF-32, or `usize::MAX` if it does not occur. An empty
+/// needle occurs at the end.
+#[unsafe(no_mangle)]
+pub extern "C" fn wide_utf32_rfind(units: &[u32], part: &[u32]) -> usize
+    ensures last { result < 2 ^ 64 - 1 → IsLastAt part.now units.now result }
+    ensures none { result ≡ 2 ^ 64 - 1 → OccursNowhere part.now units.now }
+{
+    rfind(units, part).unwrap_or(usize::MAX)
+}
+
+/// Returns the offset of the first occurrence of the needle in UTF-32 without regard to the case of ASCII letters, or
+/// `usize::MAX` if it does not occur. An empty needle occurs at offset 0.
+#[unsafe(no_mangle)]
+pub extern "C" fn wide_utf32_find_ignore_ascii_case(units: &[u32], part: &[u32]) -> usize
+    ensures first { result < 2 ^ 64 - 1 → IsFirstAt (lowercased part.now) (lowercased units.now) result }
+    ensures none { result ≡ 2 ^ 64 - 1 → OccursNowhere (lowercased part.now) (lowercased units.now) }
+{
+    find_ignore_ascii_case(units, part).unwrap_or(usize::MAX)
 }
