@@ -492,9 +492,11 @@ impl<'a> UtfStr<'a, u16> {
     ///
     /// ```
     /// let text = Utf16Str::from_slice(&[0x48, 0xd83d, 0xde00])?;
-    /// assert!(rt; text.code_units().next_back() == Some(0xde00));
-    /// assert!(rt; text.code_units().count() == 3);
-    /// assert!(rt; text.chars().count() == 2);
+    /// let mut units = text.code_units();
+    /// assert!(rt; units.next() == Some(0x48));
+    /// assert!(rt; units.next_back() == Some(0xde00));
+    /// assert!(rt; units.next_back() == Some(0xd83d));
+    /// assert!(rt; units.next().is_none());
     /// ```
     pub fn code_units(self) -> CodeUnits<'a>
         ensures { code_units_rest result ≡ units_seen self.entry }
