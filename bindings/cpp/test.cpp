@@ -181,6 +181,12 @@ template <class View, class Numbers> void compare_units(View text, const Numbers
     must(widestring::find(numbers, 0x7a) == widestring::find(text, 0x7a), "find of a unit in numbers");
     must(widestring::find(numbers, numbers) == std::optional<std::size_t>(0), "find of numbers");
     must(widestring::find(text, numbers) == std::optional<std::size_t>(0), "find of numbers in a view");
+    must(widestring::rfind(numbers, numbers) == std::optional<std::size_t>(0), "rfind of numbers");
+    must(widestring::find_ignore_ascii_case(numbers, numbers) == std::optional<std::size_t>(0), "find_ignore_ascii_case of numbers");
+    must(widestring::eq_ignore_ascii_case(numbers, text), "eq_ignore_ascii_case of numbers");
+    must(widestring::compare_code_points(numbers, text) == 0, "compare_code_points of numbers");
+    must(widestring::to_ascii_lowercase(numbers) == widestring::to_ascii_lowercase(text), "to_ascii_lowercase of numbers");
+    must(widestring::to_ascii_uppercase(numbers) == widestring::to_ascii_uppercase(text), "to_ascii_uppercase of numbers");
     must(widestring::to_utf8(numbers) == widestring::to_utf8(text), "to_utf8 of numbers");
     must(widestring::repair(numbers) == widestring::repair(text), "repair of numbers");
     for (const auto policy : policies)
@@ -233,7 +239,73 @@ void check(std::string_view text) {
     }
 }
 
-// Checks the functions that are there for UTF-16 and for UTF-32: searches, repair and conversion to UTF-8.
+// Appends an element of any value.
+template <class String> void put_any(String &text) {
+    const std::uint32_t wild = below(3) == 0 ? 0xd800 + below(0x800) : below(2) == 0 ? below(0x120000) : static_cast<std::uint32_t>(numbers());
+    text.push_back(static_cast<typename String::value_type>(wild));
+}
+
+// Returns the text with each ASCII letter in lower case, or in upper case.
+template <class String> String in_case(String text, bool is_upper) {
+    using Char = typename String::value_type;
+    for (Char &c : text)
+        if (is_upper ? c >= Char{'a'} && c <= Char{'z'} : c >= Char{'A'} && c <= Char{'Z'})
+            c = static_cast<Char>(c ^ 0x20);
+    return text;
+}
+
+// Changes the case of some letters, and in some texts one element.
+template <class String> void change_letters(String &text) {
+    using Char = typename String::value_type;
+    const String lower = in_case(text, false);
+    for (std::size_t at = 0; at < text.size(); at++)
+        if (below(2) == 0 && lower[at] >= Char{'a'} && lower[at] <= Char{'z'})
+            text[at] = static_cast<Char>(text[at] ^ 0x20);
+    if (!text.empty() && below(3) == 0) {
+        Char &c = text[below(static_cast<std::uint32_t>(text.size()))];
+        c = static_cast<Char>(c ^ 0x20);
+    }
+}
+
+// Checks searches and comparisons without regard to case, and the functions that write letters in the other case.
+template <class View> void check_case(View text) {
+    using String = std::basic_string<typename View::value_type>;
+    const auto found = [](std::size_t at) { return at == String::npos ? std::nullopt : std::optional(at); };
+    const String lower = in_case(String(text), false);
+    must(widestring::to_ascii_lowercase(text) == lower, "to_ascii_lowercase");
+    must(widestring::to_ascii_uppercase(text) == in_case(String(text), true), "to_ascii_uppercase");
+    String needle(text.substr(below(static_cast<std::uint32_t>(text.size()) + 1), below(9))), other(text);
+    change_letters(needle);
+    change_letters(other);
+    must(widestring::find_ignore_ascii_case(text, needle) == found(lower.find(in_case(needle, false))), "find_ignore_ascii_case");
+    must(widestring::eq_ignore_ascii_case(text, needle) == (lower == in_case(needle, false)), "eq_ignore_ascii_case of a needle");
+    must(widestring::eq_ignore_ascii_case(text, other) == (lower == in_case(other, false)), "eq_ignore_ascii_case");
+}
+
+// Returns the code points of a text: its characters, and the numbers of units that belong to none.
+template <class View> std::vector<std::uint32_t> code_points_of(View text, const Items &items) {
+    std::vector<std::uint32_t> all = items.item;
+    for (std::size_t at = 0; at < all.size(); at++)
+        if (all[at] == fault)
+            all[at] = static_cast<std::uint32_t>(text[items.offset[at]]);
+    return all;
+}
+
+// Checks comparisons with a text that differs from some element on, or does not.
+template <class View> void check_order(View text, const Items &items) {
+    using String = std::basic_string<typename View::value_type>;
+    String other(text.substr(0, below(static_cast<std::uint32_t>(text.size()) + 1)));
+    if (below(2) == 0)
+        put_any(other);
+    if (other.size() < text.size() && below(2) == 0)
+        other.append(text.substr(other.size()));
+    const auto left = code_points_of(text, items), right = code_points_of(View(other), items_of(View(other)));
+    const int wanted = left < right ? -1 : left == right ? 0 : 1;
+    must(widestring::compare_code_points(text, other) == wanted, "compare_code_points");
+    must(widestring::compare_code_points(other, text) == -wanted, "compare_code_points the other way round");
+}
+
+// Checks the functions that are there for UTF-16 and for UTF-32: searches, comparisons, repair and conversion to UTF-8.
 template <class View> void check_units(View text, const Items &items) {
     using String = std::basic_string<typename View::value_type>;
     check_faults(text, items);
@@ -252,8 +324,12 @@ template <class View> void check_units(View text, const Items &items) {
     const View needle = text.substr(at, below(9));
     must(widestring::find(text, needle) == found(text.find(needle)), "find of a needle");
     must(widestring::find(needle, text) == found(needle.find(text)), "find of a longer needle");
+    must(widestring::rfind(text, needle) == found(text.rfind(needle)), "rfind");
+    must(widestring::rfind(needle, text) == found(needle.rfind(text)), "rfind of a longer needle");
     must(widestring::find(text, typename View::value_type{0x7a}) == found(text.find(0x7a)), "find of a unit");
     must(widestring::first_nul(text) == found(text.find(typename View::value_type{0})), "first_nul");
+    check_case(text);
+    check_order(text, items);
 }
 
 void check_bytes(std::u16string_view text);
@@ -349,12 +425,6 @@ std::uint32_t random_character(std::uint32_t bound) {
     return is_scalar(c) ? c : 0x7a;
 }
 
-// Appends an element of any value.
-template <class String> void put_any(String &text) {
-    const std::uint32_t wild = below(3) == 0 ? 0xd800 + below(0x800) : below(2) == 0 ? below(0x120000) : static_cast<std::uint32_t>(numbers());
-    text.push_back(static_cast<typename String::value_type>(wild));
-}
-
 template <class String> String random_text() {
     static const std::uint32_t bounds[] = {0x80, 0x800, 0x10000, 0x110000};
     const std::uint32_t most = below(128) == 0 ? 15000 : below(16) == 0 ? 600 : below(4) == 0 ? 150 : 20;
@@ -381,6 +451,11 @@ void check_types() {
     must(widestring::repair(L"\xd800") == L"\xfffd", "repair of a literal");
     must(widestring::find(std::wstring(L"abc"), L'c') == std::optional<std::size_t>(2), "find in a string of wchar_t");
     must(widestring::find(std::u16string(u"abc"), u"c") == std::optional<std::size_t>(2), "find of a literal");
+    must(widestring::rfind(L"abca", L"a") == std::optional<std::size_t>(3), "rfind of a literal");
+    must(widestring::find_ignore_ascii_case(u"xABC", u"abc") == std::optional<std::size_t>(1), "find_ignore_ascii_case of a literal");
+    must(widestring::eq_ignore_ascii_case(U"aB", U"Ab") && !widestring::eq_ignore_ascii_case(u"a", u"b"), "eq_ignore_ascii_case of literals");
+    must(widestring::compare_code_points(u"\xd83d\xde00", u"\xff21") > 0, "compare_code_points of literals");
+    must(widestring::to_ascii_lowercase(L"A\xc4") == L"a\xc4" && widestring::to_ascii_uppercase(u"a") == u"A", "letters of literals");
 #ifdef __cpp_char8_t
     must(widestring::to_utf16(u8"a") == u"a" && widestring::to_utf16(widestring::view(u8"a")) == u"a", "to_utf16 of char8_t");
 #endif

@@ -536,6 +536,52 @@ inline std::optional<std::size_t> find(Utf32Units units, Utf32Units needle) noex
     return detail::unless(SIZE_MAX, wide_utf32_find(units.data, units.size, needle.data, needle.size));
 }
 
+/*
+ * Returns the offset of the last occurrence of the needle, or std::nullopt if there is none. An empty needle occurs at
+ * the end.
+ */
+inline std::optional<std::size_t> rfind(Utf16Units units, Utf16Units needle) noexcept {
+    return detail::unless(SIZE_MAX, wide_utf16_rfind(units.data, units.size, needle.data, needle.size));
+}
+
+inline std::optional<std::size_t> rfind(Utf32Units units, Utf32Units needle) noexcept {
+    return detail::unless(SIZE_MAX, wide_utf32_rfind(units.data, units.size, needle.data, needle.size));
+}
+
+/*
+ * Returns the offset of the first occurrence of the needle without regard to the case of ASCII letters, or std::nullopt
+ * if there is none. An empty needle occurs at offset 0.
+ */
+inline std::optional<std::size_t> find_ignore_ascii_case(Utf16Units units, Utf16Units needle) noexcept {
+    return detail::unless(SIZE_MAX, wide_utf16_find_ignore_ascii_case(units.data, units.size, needle.data, needle.size));
+}
+
+inline std::optional<std::size_t> find_ignore_ascii_case(Utf32Units units, Utf32Units needle) noexcept {
+    return detail::unless(SIZE_MAX, wide_utf32_find_ignore_ascii_case(units.data, units.size, needle.data, needle.size));
+}
+
+/* Returns whether both texts have the same units without regard to the case of ASCII letters. */
+inline bool eq_ignore_ascii_case(Utf16Units units, Utf16Units other) noexcept {
+    return wide_utf16_eq_ignore_ascii_case(units.data, units.size, other.data, other.size) != 0;
+}
+
+inline bool eq_ignore_ascii_case(Utf32Units units, Utf32Units other) noexcept {
+    return wide_utf32_eq_ignore_ascii_case(units.data, units.size, other.data, other.size) != 0;
+}
+
+/*
+ * Compares two texts by their code points, as UTF-8 and UTF-32 are ordered. Returns a negative number if the first text
+ * is less than the other one, 0 if both are the same, and a positive number if the first one is greater. An ill-formed
+ * unit counts by its number.
+ */
+inline int compare_code_points(Utf16Units units, Utf16Units other) noexcept {
+    return wide_utf16_compare_code_points(units.data, units.size, other.data, other.size);
+}
+
+inline int compare_code_points(Utf32Units units, Utf32Units other) noexcept {
+    return wide_utf32_compare_code_points(units.data, units.size, other.data, other.size);
+}
+
 /* Converts well-formed units or bytes to UTF-8, UTF-16 or UTF-32. Returns std::nullopt if they are ill-formed. */
 inline std::optional<std::string> to_utf8(Utf16Units units) {
     return detail::converted<std::string>(units, wide_utf16_to_utf8);
@@ -678,6 +724,34 @@ inline std::u32string repair(CodeUnits<std::uint32_t, char32_t> units) {
 
 inline std::wstring repair(std::wstring_view units) {
     return detail::converted<std::wstring>(Utf32Units(units), wide_utf32_repair).value();
+}
+
+/*
+ * Copies the units, and writes each ASCII letter in lower case, or in upper case. The elements of the result have the
+ * type of the argument's elements.
+ */
+inline std::u16string to_ascii_lowercase(Utf16Units units) {
+    return detail::converted<std::u16string>(units, wide_utf16_to_ascii_lowercase).value();
+}
+
+inline std::u32string to_ascii_lowercase(CodeUnits<std::uint32_t, char32_t> units) {
+    return detail::converted<std::u32string>(units, wide_utf32_to_ascii_lowercase).value();
+}
+
+inline std::wstring to_ascii_lowercase(std::wstring_view units) {
+    return detail::converted<std::wstring>(Utf32Units(units), wide_utf32_to_ascii_lowercase).value();
+}
+
+inline std::u16string to_ascii_uppercase(Utf16Units units) {
+    return detail::converted<std::u16string>(units, wide_utf16_to_ascii_uppercase).value();
+}
+
+inline std::u32string to_ascii_uppercase(CodeUnits<std::uint32_t, char32_t> units) {
+    return detail::converted<std::u32string>(units, wide_utf32_to_ascii_uppercase).value();
+}
+
+inline std::wstring to_ascii_uppercase(std::wstring_view units) {
+    return detail::converted<std::wstring>(Utf32Units(units), wide_utf32_to_ascii_uppercase).value();
 }
 
 } // inline namespace WIDESTRING_TEXTS

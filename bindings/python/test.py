@@ -84,13 +84,69 @@ def offset_of(units, needle):
     return next((at for at in spans if units[at : at + len(needle)] == needle), None)
 
 
+def last_offset_of(units, needle):
+    """Returns the last offset of a needle in a list of units, or None."""
+    spans = range(len(units) - len(needle), -1, -1)
+    return next((at for at in spans if units[at : at + len(needle)] == needle), None)
+
+
 def check_searches(width, units):
     calls = vars(widestring)
     needle = units[random.randrange(len(units) + 1) :][: random.randrange(6)]
     unit = needle[0] if needle else 0x7A
     equal("find", calls[f"utf{width}_find"](units, needle), offset_of(units, needle))
+    equal("rfind", calls[f"utf{width}_rfind"](units, needle), last_offset_of(units, needle))
     equal("find_unit", calls[f"utf{width}_find_unit"](units, unit), offset_of(units, array.array(units.typecode, [unit])))
     equal("first_nul", calls[f"utf{width}_first_nul"](units), offset_of(units, array.array(units.typecode, [0])))
+
+
+def in_case(units, first):
+    """Returns the units with each ASCII letter in lower case, if `first` is ord("A"), or in upper case, if it is
+    ord("a")."""
+    return array.array(units.typecode, [unit ^ 0x20 if first <= unit < first + 26 else unit for unit in units])
+
+
+def with_other_letters(units):
+    """Returns the units with the case of some letters changed, and in some cases one other unit."""
+    changed = array.array(units.typecode, [unit ^ 0x20 if 0x61 <= unit | 0x20 <= 0x7A and random.random() < 0.5 else unit for unit in units])
+    if changed and random.random() < 0.3:
+        changed[random.randrange(len(changed))] ^= 0x20
+    return changed
+
+
+def check_case(width, units):
+    """Checks searches and comparisons without regard to case, and the functions that write letters in the other
+    case."""
+    calls = vars(widestring)
+    lower = in_case(units, ord("A"))
+    needle = with_other_letters(units[random.randrange(len(units) + 1) :][: random.randrange(6)])
+    equal("find_ignore_ascii_case", calls[f"utf{width}_find_ignore_ascii_case"](units, needle), offset_of(lower, in_case(needle, ord("A"))))
+    for other in (needle, with_other_letters(units)):
+        equal("eq_ignore_ascii_case", calls[f"utf{width}_eq_ignore_ascii_case"](units, other), lower == in_case(other, ord("A")))
+    equal("to_ascii_lowercase", calls[f"utf{width}_to_ascii_lowercase"](units), lower.tobytes())
+    equal("to_ascii_uppercase", calls[f"utf{width}_to_ascii_uppercase"](units), in_case(units, ord("a")).tobytes())
+
+
+def code_points_of(units):
+    """Returns the code points of UTF-16, of which a surrogate is one, or the numbers of UTF-32."""
+    return units.tolist() if units.itemsize == 4 else [ord(c) for c in units.tobytes().decode("utf-16-le", "surrogatepass")]
+
+
+def check_order(width, units):
+    """Checks comparisons with a text that differs from some unit on, or does not."""
+    other = units[: random.randrange(len(units) + 1)]
+    if random.random() < 0.5:
+        other.append(random.choice([0xD83D, 0xDE00, 0xE000, random.randrange(0x10000)]))
+    if random.random() < 0.5:
+        other.extend(units[len(other) :])
+    left, right = code_points_of(units), code_points_of(other)
+    equal("compare_code_points", vars(widestring)[f"utf{width}_compare_code_points"](units, other), (left > right) - (left < right))
+
+
+def check_units(width, units):
+    check_searches(width, units)
+    check_case(width, units)
+    check_order(width, units)
 
 
 def check_utf16(data):
@@ -105,7 +161,7 @@ def check_utf16(data):
     check_strict(widestring.utf16_to_utf8, data, items, "utf-8", offset)
     check_strict(widestring.utf16_to_utf32, data, items, "utf-32-le", offset)
     check_lossy(widestring.utf16_to_utf8_lossy, data, items, "utf-8")
-    check_searches(16, array.array("H", data))
+    check_units(16, array.array("H", data))
     check_bytes(data)
 
 
@@ -152,7 +208,7 @@ def check_utf32(data):
     check_strict(widestring.utf32_to_utf8, data, items, "utf-8", offset)
     check_strict(widestring.utf32_to_utf16, data, items, "utf-16-le", offset)
     check_lossy(widestring.utf32_to_utf8_lossy, data, items, "utf-8")
-    check_searches(32, array.array("I", data))
+    check_units(32, array.array("I", data))
 
 
 def random_text():
@@ -192,6 +248,8 @@ def check_rejected_arguments():
         must_raise(TypeError, widestring.utf8_first_fault, text)
         must_raise(TypeError, widestring.utf16_find_unit, text, -1)
         must_raise(TypeError, widestring.utf32_find, b"abcd", text)
+        must_raise(TypeError, widestring.utf16_compare_code_points, b"ab", text)
+        must_raise(TypeError, widestring.utf32_eq_ignore_ascii_case, text, b"abcd")
     for unit in (105.0, "i", b"i", None):
         must_raise(TypeError, widestring.utf16_find_unit, b"i\0", unit)
         must_raise(TypeError, widestring.utf32_find_unit, b"i\0\0\0", unit)

@@ -1,5 +1,5 @@
-r"""Conversions, checks and searches of UTF-16, UTF-32 and UTF-8 in bytes objects, by a library whose functions are
-proved for all units, well formed or ill-formed.
+r"""Conversions, checks, searches and comparisons of UTF-16, UTF-32 and UTF-8 in bytes objects, by a library whose
+functions are proved for all units, well formed or ill-formed.
 
 >>> units = "Hi😀".encode("utf-16-le") + b"\x00\xdc"
 >>> utf16_first_fault(units)
@@ -47,7 +47,7 @@ _UNITS = {1: (), 2: ("H",), 4: ("I", "L", "u", "w")}
 # The prefixes of formats in native byte order.
 _OWN_ORDER = ("@", "=", "<")
 # The types of texts and buffers, which are bytes objects, of lengths and offsets, and of units and other numbers.
-_TEXT, _SIZE, _U16, _U32 = ctypes.c_char_p, ctypes.c_size_t, ctypes.c_uint16, ctypes.c_uint32
+_TEXT, _SIZE, _U16, _U32, _I32 = ctypes.c_char_p, ctypes.c_size_t, ctypes.c_uint16, ctypes.c_uint32, ctypes.c_int32
 # What each function returns, and what it takes.
 # Made by bindings/tables:
 _SIGNATURES = {
@@ -72,6 +72,14 @@ _SIGNATURES = {
     "utf32_find_unit": (_SIZE, _TEXT, _SIZE, _U32),
     "utf16_find": (_SIZE, _TEXT, _SIZE, _TEXT, _SIZE),
     "utf32_find": (_SIZE, _TEXT, _SIZE, _TEXT, _SIZE),
+    "utf16_rfind": (_SIZE, _TEXT, _SIZE, _TEXT, _SIZE),
+    "utf32_rfind": (_SIZE, _TEXT, _SIZE, _TEXT, _SIZE),
+    "utf16_find_ignore_ascii_case": (_SIZE, _TEXT, _SIZE, _TEXT, _SIZE),
+    "utf32_find_ignore_ascii_case": (_SIZE, _TEXT, _SIZE, _TEXT, _SIZE),
+    "utf16_eq_ignore_ascii_case": (_U32, _TEXT, _SIZE, _TEXT, _SIZE),
+    "utf32_eq_ignore_ascii_case": (_U32, _TEXT, _SIZE, _TEXT, _SIZE),
+    "utf16_compare_code_points": (_I32, _TEXT, _SIZE, _TEXT, _SIZE),
+    "utf32_compare_code_points": (_I32, _TEXT, _SIZE, _TEXT, _SIZE),
     "utf16_to_utf8": (_SIZE, _TEXT, _SIZE, _TEXT, _SIZE),
     "utf16_to_utf8_lossy_with": (_SIZE, _TEXT, _SIZE, _U32, _TEXT, _SIZE),
     "utf16_bytes_order": (_U32, _TEXT, _SIZE),
@@ -90,6 +98,10 @@ _SIGNATURES = {
     "utf8_to_utf32_lossy_with": (_SIZE, _TEXT, _SIZE, _U32, _TEXT, _SIZE),
     "utf16_repair": (_SIZE, _TEXT, _SIZE, _TEXT, _SIZE),
     "utf32_repair": (_SIZE, _TEXT, _SIZE, _TEXT, _SIZE),
+    "utf16_to_ascii_lowercase": (_SIZE, _TEXT, _SIZE, _TEXT, _SIZE),
+    "utf32_to_ascii_lowercase": (_SIZE, _TEXT, _SIZE, _TEXT, _SIZE),
+    "utf16_to_ascii_uppercase": (_SIZE, _TEXT, _SIZE, _TEXT, _SIZE),
+    "utf32_to_ascii_uppercase": (_SIZE, _TEXT, _SIZE, _TEXT, _SIZE),
 }
 # End of what bindings/tables makes.
 
@@ -323,6 +335,14 @@ _find_unit16 = _call("utf16_find_unit")
 _find_unit32 = _call("utf32_find_unit")
 _find16 = _call("utf16_find")
 _find32 = _call("utf32_find")
+_rfind16 = _call("utf16_rfind")
+_rfind32 = _call("utf32_rfind")
+_find_ignore_ascii_case16 = _call("utf16_find_ignore_ascii_case")
+_find_ignore_ascii_case32 = _call("utf32_find_ignore_ascii_case")
+_eq_ignore_ascii_case16 = _call("utf16_eq_ignore_ascii_case")
+_eq_ignore_ascii_case32 = _call("utf32_eq_ignore_ascii_case")
+_compare_code_points16 = _call("utf16_compare_code_points")
+_compare_code_points32 = _call("utf32_compare_code_points")
 _utf16_to_utf8 = _Conversion("utf16_to_utf8", 2, 1, "utf16_utf8_length")
 _utf32_to_utf8 = _Conversion("utf32_to_utf8", 4, 1, "utf32_utf8_length")
 _utf8_to_utf16 = _Conversion("utf8_to_utf16", 1, 2, "utf8_utf16_length")
@@ -335,6 +355,10 @@ _utf8_to_utf16_lossy = _Conversion("utf8_to_utf16_lossy_with", 1, 2, "utf8_utf16
 _utf8_to_utf32_lossy = _Conversion("utf8_to_utf32_lossy_with", 1, 4, "utf8_utf32_length")
 _utf16_repair = _Conversion("utf16_repair", 2, 2)
 _utf32_repair = _Conversion("utf32_repair", 4, 4)
+_utf16_to_ascii_lowercase = _Conversion("utf16_to_ascii_lowercase", 2, 2)
+_utf32_to_ascii_lowercase = _Conversion("utf32_to_ascii_lowercase", 4, 4)
+_utf16_to_ascii_uppercase = _Conversion("utf16_to_ascii_uppercase", 2, 2)
+_utf32_to_ascii_uppercase = _Conversion("utf32_to_ascii_uppercase", 4, 4)
 _utf16_bytes_order = _call("utf16_bytes_order")
 _utf16_bytes_complete = _call("utf16_bytes_complete")
 _utf16_bytes_first_fault = _call("utf16_bytes_first_fault")
@@ -525,6 +549,127 @@ def utf32_find(units, needle):
     return _number(_find32, units, 4, *_elements(needle, 4))
 
 
+def utf16_rfind(units, needle):
+    """Returns the offset, in units, of the last occurrence of a needle, or None if it does not occur. An empty needle
+    occurs at the end. Units are compared as numbers, also if they are ill-formed. The time grows at most linearly with
+    both lengths.
+
+    Raises:
+        TypeError: `units` or `needle` is neither bytes nor a buffer of bytes or of units of 16 bits.
+        ValueError: an incomplete unit is at the end of one of them.
+
+    >>> utf16_rfind("abcab".encode("utf-16-le"), "ab".encode("utf-16-le"))
+    3
+    """
+    return _number(_rfind16, units, 2, *_elements(needle, 2))
+
+
+def utf32_rfind(units, needle):
+    """Returns the offset, in units, of the last occurrence of a needle, or None if it does not occur. An empty needle
+    occurs at the end. Units are compared as numbers, also if they are not scalar values. The time grows at most
+    linearly with both lengths.
+
+    Raises:
+        TypeError: `units` or `needle` is neither bytes nor a buffer of bytes or of units of 32 bits.
+        ValueError: an incomplete unit is at the end of one of them.
+
+    >>> utf32_rfind("abcab".encode("utf-32-le"), "ab".encode("utf-32-le"))
+    3
+    """
+    return _number(_rfind32, units, 4, *_elements(needle, 4))
+
+
+def utf16_find_ignore_ascii_case(units, needle):
+    """Returns the offset, in units, of the first occurrence of a needle without regard to the case of ASCII letters, or
+    None if it does not occur. An empty needle occurs at offset 0. Letters past ASCII are compared as they are. The time
+    grows at most linearly with both lengths.
+
+    Raises:
+        TypeError: `units` or `needle` is neither bytes nor a buffer of bytes or of units of 16 bits.
+        ValueError: an incomplete unit is at the end of one of them.
+
+    >>> utf16_find_ignore_ascii_case("Key=Value".encode("utf-16-le"), "VALUE".encode("utf-16-le"))
+    4
+    """
+    return _number(_find_ignore_ascii_case16, units, 2, *_elements(needle, 2))
+
+
+def utf32_find_ignore_ascii_case(units, needle):
+    """Returns the offset, in units, of the first occurrence of a needle without regard to the case of ASCII letters, or
+    None if it does not occur. An empty needle occurs at offset 0. Letters past ASCII are compared as they are. The time
+    grows at most linearly with both lengths.
+
+    Raises:
+        TypeError: `units` or `needle` is neither bytes nor a buffer of bytes or of units of 32 bits.
+        ValueError: an incomplete unit is at the end of one of them.
+
+    >>> utf32_find_ignore_ascii_case("Key=Value".encode("utf-32-le"), "VALUE".encode("utf-32-le"))
+    4
+    """
+    return _number(_find_ignore_ascii_case32, units, 4, *_elements(needle, 4))
+
+
+def utf16_eq_ignore_ascii_case(units, other):
+    """Returns whether both texts have the same units without regard to the case of ASCII letters. Letters past ASCII
+    are compared as they are.
+
+    Raises:
+        TypeError: `units` or `other` is neither bytes nor a buffer of bytes or of units of 16 bits.
+        ValueError: an incomplete unit is at the end of one of them.
+
+    >>> utf16_eq_ignore_ascii_case("Key".encode("utf-16-le"), "KEY".encode("utf-16-le"))
+    True
+    >>> utf16_eq_ignore_ascii_case("Ä".encode("utf-16-le"), "ä".encode("utf-16-le"))
+    False
+    """
+    return _eq_ignore_ascii_case16(*_elements(units, 2), *_elements(other, 2)) != 0
+
+
+def utf32_eq_ignore_ascii_case(units, other):
+    """Returns whether both texts have the same units without regard to the case of ASCII letters. Letters past ASCII
+    are compared as they are.
+
+    Raises:
+        TypeError: `units` or `other` is neither bytes nor a buffer of bytes or of units of 32 bits.
+        ValueError: an incomplete unit is at the end of one of them.
+
+    >>> utf32_eq_ignore_ascii_case("Key".encode("utf-32-le"), "KEY".encode("utf-32-le"))
+    True
+    >>> utf32_eq_ignore_ascii_case("Ä".encode("utf-32-le"), "ä".encode("utf-32-le"))
+    False
+    """
+    return _eq_ignore_ascii_case32(*_elements(units, 4), *_elements(other, 4)) != 0
+
+
+def utf16_compare_code_points(units, other):
+    """Compares two texts by their code points, as `str` is ordered. Returns -1 if the first text is less than the other
+    one, 0 if both are the same, and 1 if the first one is greater. An unpaired surrogate is a code point too.
+
+    Raises:
+        TypeError: `units` or `other` is neither bytes nor a buffer of bytes or of units of 16 bits.
+        ValueError: an incomplete unit is at the end of one of them.
+
+    >>> utf16_compare_code_points("😀".encode("utf-16-le"), "Ａ".encode("utf-16-le"))
+    1
+    """
+    return _compare_code_points16(*_elements(units, 2), *_elements(other, 2))
+
+
+def utf32_compare_code_points(units, other):
+    """Compares two texts by their code points, as `str` is ordered. Returns -1 if the first text is less than the other
+    one, 0 if both are the same, and 1 if the first one is greater. A unit that is not a scalar value counts by its
+    number.
+
+    Raises:
+        TypeError: `units` or `other` is neither bytes nor a buffer of bytes or of units of 32 bits.
+        ValueError: an incomplete unit is at the end of one of them.
+
+    >>> utf32_compare_code_points("😀".encode("utf-32-le"), "Ａ".encode("utf-32-le"))
+    1
+    """
+    return _compare_code_points32(*_elements(units, 4), *_elements(other, 4))
+
+
 def utf16_to_utf8(units):
     r"""Converts well-formed UTF-16 to UTF-8.
 
@@ -698,6 +843,62 @@ def utf32_repair(units):
     'H�'
     """
     return _utf32_repair.lossy(units)
+
+
+def utf16_to_ascii_lowercase(units):
+    """Copies UTF-16, and writes each ASCII letter in lower case. All other units are copied as they are, also
+    ill-formed ones. The result has as many units as the input.
+
+    Raises:
+        TypeError: `units` is neither bytes nor a buffer of bytes or of units of 16 bits.
+        ValueError: an incomplete unit is at the end.
+
+    >>> utf16_to_ascii_lowercase("HI Ä".encode("utf-16-le")).decode("utf-16-le")
+    'hi Ä'
+    """
+    return _utf16_to_ascii_lowercase.lossy(units)
+
+
+def utf32_to_ascii_lowercase(units):
+    """Copies UTF-32, and writes each ASCII letter in lower case. All other units are copied as they are, also those
+    that are not scalar values. The result has as many units as the input.
+
+    Raises:
+        TypeError: `units` is neither bytes nor a buffer of bytes or of units of 32 bits.
+        ValueError: an incomplete unit is at the end.
+
+    >>> utf32_to_ascii_lowercase("HI Ä".encode("utf-32-le")).decode("utf-32-le")
+    'hi Ä'
+    """
+    return _utf32_to_ascii_lowercase.lossy(units)
+
+
+def utf16_to_ascii_uppercase(units):
+    """Copies UTF-16, and writes each ASCII letter in upper case. All other units are copied as they are, also
+    ill-formed ones. The result has as many units as the input.
+
+    Raises:
+        TypeError: `units` is neither bytes nor a buffer of bytes or of units of 16 bits.
+        ValueError: an incomplete unit is at the end.
+
+    >>> utf16_to_ascii_uppercase("Hi ä".encode("utf-16-le")).decode("utf-16-le")
+    'HI ä'
+    """
+    return _utf16_to_ascii_uppercase.lossy(units)
+
+
+def utf32_to_ascii_uppercase(units):
+    """Copies UTF-32, and writes each ASCII letter in upper case. All other units are copied as they are, also those
+    that are not scalar values. The result has as many units as the input.
+
+    Raises:
+        TypeError: `units` is neither bytes nor a buffer of bytes or of units of 32 bits.
+        ValueError: an incomplete unit is at the end.
+
+    >>> utf32_to_ascii_uppercase("Hi ä".encode("utf-32-le")).decode("utf-32-le")
+    'HI ä'
+    """
+    return _utf32_to_ascii_uppercase.lossy(units)
 
 
 def utf16_bytes_order(data):

@@ -5,6 +5,7 @@
 use crate::{raw, Fault, IntoError, Lossy, Order, Short};
 use alloc::string::String;
 use alloc::vec::Vec;
+use core::cmp;
 use core::sync::atomic::{AtomicBool, Ordering};
 
 /// A text of at most `SHORT` elements gets the capacity that the longest result needs. For a longer text, a prefix of
@@ -107,38 +108,61 @@ pub const UTF32_CHAR_COUNT: Query<u32> = Query(raw::wide_utf32_char_count);
 pub const UTF16_FIRST_NUL: Query<u16> = Query(raw::wide_utf16_first_nul);
 pub const UTF32_FIRST_NUL: Query<u32> = Query(raw::wide_utf32_first_nul);
 
-/// The functions that search units for a unit and for a needle.
-pub struct Search<T> {
-    unit: unsafe extern "C" fn(*const T, usize, T) -> usize,
-    find: unsafe extern "C" fn(*const T, usize, *const T, usize) -> usize,
-}
+/// A function that searches units for a unit.
+pub struct UnitSearch<T>(unsafe extern "C" fn(*const T, usize, T) -> usize);
 
-impl<T> Search<T> {
-    pub fn unit(&self, units: &[T], unit: T) -> Option<usize> {
+impl<T> UnitSearch<T> {
+    pub fn offset(&self, units: &[T], unit: T) -> Option<usize> {
         check_version();
         // SAFETY: a slice is memory of this length that may be read.
-        let result = unsafe { (self.unit)(units.as_ptr(), units.len(), unit) };
+        let result = unsafe { (self.0)(units.as_ptr(), units.len(), unit) };
         unless(units.len(), units.len(), result)
-    }
-
-    pub fn find(&self, units: &[T], needle: &[T]) -> Option<usize> {
-        check_version();
-        // SAFETY: both slices are memory of these lengths that may be read.
-        let result =
-            unsafe { (self.find)(units.as_ptr(), units.len(), needle.as_ptr(), needle.len()) };
-        unless(NONE, units.len(), result)
     }
 }
 
-pub const UTF16_SEARCH: Search<u16> = Search {
-    unit: raw::wide_utf16_find_unit,
-    find: raw::wide_utf16_find,
-};
+pub const UTF16_FIND_UNIT: UnitSearch<u16> = UnitSearch(raw::wide_utf16_find_unit);
+pub const UTF32_FIND_UNIT: UnitSearch<u32> = UnitSearch(raw::wide_utf32_find_unit);
 
-pub const UTF32_SEARCH: Search<u32> = Search {
-    unit: raw::wide_utf32_find_unit,
-    find: raw::wide_utf32_find,
-};
+/// A function that reads two slices and returns an offset, a flag or a sign.
+pub struct Both<T, R>(unsafe extern "C" fn(*const T, usize, *const T, usize) -> R);
+
+impl<T, R> Both<T, R> {
+    fn result(&self, units: &[T], other: &[T]) -> R {
+        check_version();
+        // SAFETY: both slices are memory of these lengths that may be read.
+        unsafe { (self.0)(units.as_ptr(), units.len(), other.as_ptr(), other.len()) }
+    }
+}
+
+impl<T> Both<T, usize> {
+    /// Returns the offset of a needle, or `None` if it does not occur.
+    pub fn offset(&self, units: &[T], needle: &[T]) -> Option<usize> {
+        unless(NONE, units.len(), self.result(units, needle))
+    }
+}
+
+impl<T> Both<T, u32> {
+    pub fn flag(&self, units: &[T], other: &[T]) -> bool {
+        self.result(units, other) != 0
+    }
+}
+
+impl<T> Both<T, i32> {
+    pub fn order(&self, units: &[T], other: &[T]) -> cmp::Ordering {
+        self.result(units, other).cmp(&0)
+    }
+}
+
+pub const UTF16_FIND: Both<u16, usize> = Both(raw::wide_utf16_find);
+pub const UTF32_FIND: Both<u32, usize> = Both(raw::wide_utf32_find);
+pub const UTF16_RFIND: Both<u16, usize> = Both(raw::wide_utf16_rfind);
+pub const UTF32_RFIND: Both<u32, usize> = Both(raw::wide_utf32_rfind);
+pub const UTF16_FIND_IN_ANY_CASE: Both<u16, usize> = Both(raw::wide_utf16_find_ignore_ascii_case);
+pub const UTF32_FIND_IN_ANY_CASE: Both<u32, usize> = Both(raw::wide_utf32_find_ignore_ascii_case);
+pub const UTF16_EQ_IN_ANY_CASE: Both<u16, u32> = Both(raw::wide_utf16_eq_ignore_ascii_case);
+pub const UTF32_EQ_IN_ANY_CASE: Both<u32, u32> = Both(raw::wide_utf32_eq_ignore_ascii_case);
+pub const UTF16_COMPARE: Both<u16, i32> = Both(raw::wide_utf16_compare_code_points);
+pub const UTF32_COMPARE: Both<u32, i32> = Both(raw::wide_utf32_compare_code_points);
 
 /// Returns a vector with what the call writes. The call gets a pointer and a capacity, and returns the length, which is
 /// at most `most`. If the first capacity is too small, the call is made again. Returns `None` if the call returns a
@@ -331,24 +355,28 @@ pub const UTF32_TO_UTF8_LOSSILY: Lossily<u32, u8> = Lossily(raw::wide_utf32_to_u
 pub const UTF8_TO_UTF16_LOSSILY: Lossily<u8, u16> = Lossily(raw::wide_utf8_to_utf16_lossy_with);
 pub const UTF8_TO_UTF32_LOSSILY: Lossily<u8, u32> = Lossily(raw::wide_utf8_to_utf32_lossy_with);
 
-/// A function that repairs units. The result has the same length.
-pub struct Repair<T>(unsafe extern "C" fn(*const T, usize, *mut T, usize) -> usize);
+/// A function that copies units and replaces some of them. The result has the same length.
+pub struct Copied<T>(unsafe extern "C" fn(*const T, usize, *mut T, usize) -> usize);
 
-impl<T: Copy> Repair<T> {
+impl<T: Copy> Copied<T> {
     pub fn of(&self, units: &[T]) -> Vec<T> {
         // SAFETY: the slice may be read, the vector owns its memory, and the library writes as many elements as it
         // returns if the capacity suffices.
-        let repaired = unsafe {
+        let copied = unsafe {
             written(units.len(), units.len(), |to, capacity| {
                 (self.0)(units.as_ptr(), units.len(), to, capacity)
             })
         };
-        repaired.expect("repair has no fault")
+        copied.expect("a copy has no fault")
     }
 }
 
-pub const UTF16_REPAIR: Repair<u16> = Repair(raw::wide_utf16_repair);
-pub const UTF32_REPAIR: Repair<u32> = Repair(raw::wide_utf32_repair);
+pub const UTF16_REPAIR: Copied<u16> = Copied(raw::wide_utf16_repair);
+pub const UTF32_REPAIR: Copied<u32> = Copied(raw::wide_utf32_repair);
+pub const UTF16_LOWERCASE: Copied<u16> = Copied(raw::wide_utf16_to_ascii_lowercase);
+pub const UTF32_LOWERCASE: Copied<u32> = Copied(raw::wide_utf32_to_ascii_lowercase);
+pub const UTF16_UPPERCASE: Copied<u16> = Copied(raw::wide_utf16_to_ascii_uppercase);
+pub const UTF32_UPPERCASE: Copied<u32> = Copied(raw::wide_utf32_to_ascii_uppercase);
 
 pub fn utf16_bytes_order(bytes: &[u8]) -> Option<Order> {
     check_version();

@@ -19,6 +19,7 @@ mod raw;
 
 use alloc::string::String;
 use alloc::vec::Vec;
+use core::cmp::Ordering;
 use core::error::Error;
 use core::fmt;
 
@@ -348,7 +349,7 @@ pub fn utf32_first_nul(units: &[u32]) -> Option<usize> {
 /// assert_eq!(utf16_find_unit(&[0x48, 0x69], 0x21), None);
 /// ```
 pub fn utf16_find_unit(units: &[u16], unit: u16) -> Option<usize> {
-    calls::UTF16_SEARCH.unit(units, unit)
+    calls::UTF16_FIND_UNIT.offset(units, unit)
 }
 
 /// Returns the offset, in units, of the first unit of UTF-32 that equals `unit`, or `None` if there is none. Units are
@@ -358,7 +359,7 @@ pub fn utf16_find_unit(units: &[u16], unit: u16) -> Option<usize> {
 ///
 /// If the linked library is [not this crate's](crate#panics).
 pub fn utf32_find_unit(units: &[u32], unit: u32) -> Option<usize> {
-    calls::UTF32_SEARCH.unit(units, unit)
+    calls::UTF32_FIND_UNIT.offset(units, unit)
 }
 
 /// Returns the offset, in units, of the first occurrence of a needle in UTF-16, or `None` if it does not occur. An
@@ -379,7 +380,7 @@ pub fn utf32_find_unit(units: &[u32], unit: u32) -> Option<usize> {
 /// assert_eq!(utf16_find(&[0x48], &[]), Some(0));
 /// ```
 pub fn utf16_find(units: &[u16], needle: &[u16]) -> Option<usize> {
-    calls::UTF16_SEARCH.find(units, needle)
+    calls::UTF16_FIND.offset(units, needle)
 }
 
 /// Returns the offset, in units, of the first occurrence of a needle in UTF-32, or `None` if it does not occur. An
@@ -390,7 +391,129 @@ pub fn utf16_find(units: &[u16], needle: &[u16]) -> Option<usize> {
 ///
 /// If the linked library is [not this crate's](crate#panics).
 pub fn utf32_find(units: &[u32], needle: &[u32]) -> Option<usize> {
-    calls::UTF32_SEARCH.find(units, needle)
+    calls::UTF32_FIND.offset(units, needle)
+}
+
+/// Returns the offset, in units, of the last occurrence of a needle in UTF-16, or `None` if it does not occur. An empty
+/// needle occurs at the end. Units are compared as numbers, also if they are ill-formed. The time grows at most
+/// linearly with both lengths.
+///
+/// # Panics
+///
+/// If the linked library is [not this crate's](crate#panics).
+///
+/// # Examples
+///
+/// ```
+/// use widestring_proved::utf16_rfind;
+///
+/// assert_eq!(utf16_rfind(&[0x61, 0x62, 0x61], &[0x61]), Some(2));
+/// assert_eq!(utf16_rfind(&[0x61, 0x62, 0x61], &[]), Some(3));
+/// assert_eq!(utf16_rfind(&[0x61], &[0x62]), None);
+/// ```
+pub fn utf16_rfind(units: &[u16], needle: &[u16]) -> Option<usize> {
+    calls::UTF16_RFIND.offset(units, needle)
+}
+
+/// Returns the offset, in units, of the last occurrence of a needle in UTF-32, or `None` if it does not occur. An empty
+/// needle occurs at the end. Units are compared as numbers, also if they are not scalar values. The time grows at most
+/// linearly with both lengths.
+///
+/// # Panics
+///
+/// If the linked library is [not this crate's](crate#panics).
+pub fn utf32_rfind(units: &[u32], needle: &[u32]) -> Option<usize> {
+    calls::UTF32_RFIND.offset(units, needle)
+}
+
+/// Returns the offset, in units, of the first occurrence of a needle in UTF-16 without regard to the case of ASCII
+/// letters, or `None` if it does not occur. An empty needle occurs at offset 0. Letters past ASCII are compared as they
+/// are. The time grows at most linearly with both lengths.
+///
+/// # Panics
+///
+/// If the linked library is [not this crate's](crate#panics).
+///
+/// # Examples
+///
+/// ```
+/// use widestring_proved::utf16_find_ignore_ascii_case;
+///
+/// assert_eq!(utf16_find_ignore_ascii_case(&[0x48, 0x69], &[0x49]), Some(1));
+/// assert_eq!(utf16_find_ignore_ascii_case(&[0xe4], &[0xc4]), None);
+/// ```
+pub fn utf16_find_ignore_ascii_case(units: &[u16], needle: &[u16]) -> Option<usize> {
+    calls::UTF16_FIND_IN_ANY_CASE.offset(units, needle)
+}
+
+/// Returns the offset, in units, of the first occurrence of a needle in UTF-32 without regard to the case of ASCII
+/// letters, or `None` if it does not occur. An empty needle occurs at offset 0. Letters past ASCII are compared as they
+/// are. The time grows at most linearly with both lengths.
+///
+/// # Panics
+///
+/// If the linked library is [not this crate's](crate#panics).
+pub fn utf32_find_ignore_ascii_case(units: &[u32], needle: &[u32]) -> Option<usize> {
+    calls::UTF32_FIND_IN_ANY_CASE.offset(units, needle)
+}
+
+/// Returns whether two slices of UTF-16 have the same units without regard to the case of ASCII letters. Letters past
+/// ASCII are compared as they are.
+///
+/// # Panics
+///
+/// If the linked library is [not this crate's](crate#panics).
+///
+/// # Examples
+///
+/// ```
+/// use widestring_proved::utf16_eq_ignore_ascii_case;
+///
+/// assert!(utf16_eq_ignore_ascii_case(&[0x48, 0x69], &[0x68, 0x49]));
+/// assert!(!utf16_eq_ignore_ascii_case(&[0xe4], &[0xc4]));
+/// ```
+pub fn utf16_eq_ignore_ascii_case(units: &[u16], other: &[u16]) -> bool {
+    calls::UTF16_EQ_IN_ANY_CASE.flag(units, other)
+}
+
+/// Returns whether two slices of UTF-32 have the same units without regard to the case of ASCII letters. Letters past
+/// ASCII are compared as they are.
+///
+/// # Panics
+///
+/// If the linked library is [not this crate's](crate#panics).
+pub fn utf32_eq_ignore_ascii_case(units: &[u32], other: &[u32]) -> bool {
+    calls::UTF32_EQ_IN_ANY_CASE.flag(units, other)
+}
+
+/// Compares two slices of UTF-16 by their code points, as `str` and UTF-32 are ordered. An unpaired surrogate is a code
+/// point too. The units themselves are in another order, in which characters past U+FFFF precede U+E000 to U+FFFF.
+///
+/// # Panics
+///
+/// If the linked library is [not this crate's](crate#panics).
+///
+/// # Examples
+///
+/// ```
+/// use std::cmp::Ordering;
+/// use widestring_proved::utf16_compare_code_points;
+///
+/// let (emoji, letter) = ([0xd83d, 0xde00], [0xff21]);
+/// assert_eq!(emoji[..].cmp(&letter[..]), Ordering::Less);
+/// assert_eq!(utf16_compare_code_points(&emoji, &letter), Ordering::Greater);
+/// ```
+pub fn utf16_compare_code_points(units: &[u16], other: &[u16]) -> Ordering {
+    calls::UTF16_COMPARE.order(units, other)
+}
+
+/// Compares two slices of UTF-32 by their code points. A unit that is not a scalar value counts by its number.
+///
+/// # Panics
+///
+/// If the linked library is [not this crate's](crate#panics).
+pub fn utf32_compare_code_points(units: &[u32], other: &[u32]) -> Ordering {
+    calls::UTF32_COMPARE.order(units, other)
 }
 
 /// Converts well-formed UTF-16 to UTF-8.
@@ -640,6 +763,62 @@ pub fn utf16_repair(units: &[u16]) -> Vec<u16> {
 /// ```
 pub fn utf32_repair(units: &[u32]) -> Vec<u32> {
     calls::UTF32_REPAIR.of(units)
+}
+
+/// Copies UTF-16, and writes each ASCII letter in lower case. All other units are copied as they are, also ill-formed
+/// ones. The result has as many units as the input.
+///
+/// # Panics
+///
+/// If the linked library is [not this crate's](crate#panics).
+///
+/// # Examples
+///
+/// ```
+/// use widestring_proved::utf16_to_ascii_lowercase;
+///
+/// assert_eq!(utf16_to_ascii_lowercase(&[0x48, 0x69, 0xc4]), [0x68, 0x69, 0xc4]);
+/// ```
+pub fn utf16_to_ascii_lowercase(units: &[u16]) -> Vec<u16> {
+    calls::UTF16_LOWERCASE.of(units)
+}
+
+/// Copies UTF-32, and writes each ASCII letter in lower case. All other units are copied as they are, also those that
+/// are not scalar values. The result has as many units as the input.
+///
+/// # Panics
+///
+/// If the linked library is [not this crate's](crate#panics).
+pub fn utf32_to_ascii_lowercase(units: &[u32]) -> Vec<u32> {
+    calls::UTF32_LOWERCASE.of(units)
+}
+
+/// Copies UTF-16, and writes each ASCII letter in upper case. All other units are copied as they are, also ill-formed
+/// ones. The result has as many units as the input.
+///
+/// # Panics
+///
+/// If the linked library is [not this crate's](crate#panics).
+///
+/// # Examples
+///
+/// ```
+/// use widestring_proved::utf16_to_ascii_uppercase;
+///
+/// assert_eq!(utf16_to_ascii_uppercase(&[0x48, 0x69, 0xe4]), [0x48, 0x49, 0xe4]);
+/// ```
+pub fn utf16_to_ascii_uppercase(units: &[u16]) -> Vec<u16> {
+    calls::UTF16_UPPERCASE.of(units)
+}
+
+/// Copies UTF-32, and writes each ASCII letter in upper case. All other units are copied as they are, also those that
+/// are not scalar values. The result has as many units as the input.
+///
+/// # Panics
+///
+/// If the linked library is [not this crate's](crate#panics).
+pub fn utf32_to_ascii_uppercase(units: &[u32]) -> Vec<u32> {
+    calls::UTF32_UPPERCASE.of(units)
 }
 
 /// Converts well-formed UTF-16 to UTF-8, writes the result to the start of the buffer, and returns its length in bytes.

@@ -35,6 +35,54 @@ extern "C" {
         needle: *const u32,
         needle_length: usize,
     ) -> usize;
+    pub fn wide_utf16_rfind(
+        units: *const u16,
+        length: usize,
+        needle: *const u16,
+        needle_length: usize,
+    ) -> usize;
+    pub fn wide_utf32_rfind(
+        units: *const u32,
+        length: usize,
+        needle: *const u32,
+        needle_length: usize,
+    ) -> usize;
+    pub fn wide_utf16_find_ignore_ascii_case(
+        units: *const u16,
+        length: usize,
+        needle: *const u16,
+        needle_length: usize,
+    ) -> usize;
+    pub fn wide_utf32_find_ignore_ascii_case(
+        units: *const u32,
+        length: usize,
+        needle: *const u32,
+        needle_length: usize,
+    ) -> usize;
+    pub fn wide_utf16_eq_ignore_ascii_case(
+        units: *const u16,
+        length: usize,
+        other: *const u16,
+        other_length: usize,
+    ) -> u32;
+    pub fn wide_utf32_eq_ignore_ascii_case(
+        units: *const u32,
+        length: usize,
+        other: *const u32,
+        other_length: usize,
+    ) -> u32;
+    pub fn wide_utf16_compare_code_points(
+        units: *const u16,
+        length: usize,
+        other: *const u16,
+        other_length: usize,
+    ) -> i32;
+    pub fn wide_utf32_compare_code_points(
+        units: *const u32,
+        length: usize,
+        other: *const u32,
+        other_length: usize,
+    ) -> i32;
     pub fn wide_utf16_to_utf8(
         units: *const u16,
         length: usize,
@@ -134,6 +182,30 @@ extern "C" {
         units: *const u32,
         length: usize,
         repaired: *mut u32,
+        capacity: usize,
+    ) -> usize;
+    pub fn wide_utf16_to_ascii_lowercase(
+        units: *const u16,
+        length: usize,
+        lower: *mut u16,
+        capacity: usize,
+    ) -> usize;
+    pub fn wide_utf32_to_ascii_lowercase(
+        units: *const u32,
+        length: usize,
+        lower: *mut u32,
+        capacity: usize,
+    ) -> usize;
+    pub fn wide_utf16_to_ascii_uppercase(
+        units: *const u16,
+        length: usize,
+        upper: *mut u16,
+        capacity: usize,
+    ) -> usize;
+    pub fn wide_utf32_to_ascii_uppercase(
+        units: *const u32,
+        length: usize,
+        upper: *mut u32,
         capacity: usize,
     ) -> usize;
 }

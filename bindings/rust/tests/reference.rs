@@ -189,6 +189,88 @@ fn offset_of<T: PartialEq>(items: &[T], needle: &[T]) -> Option<usize> {
     }
 }
 
+/// Returns the last offset of a needle, by std's windows.
+fn last_offset_of<T: PartialEq>(items: &[T], needle: &[T]) -> Option<usize> {
+    match needle.len() {
+        0 => Some(items.len()),
+        length => items.windows(length).rposition(|window| window == needle),
+    }
+}
+
+/// Returns what std makes of an ASCII unit, and another unit as it is.
+fn in_case(unit: u32, change: fn(&u8) -> u8) -> u32 {
+    u8::try_from(unit).map_or(unit, |byte| u32::from(change(&byte)))
+}
+
+/// Changes the case of some letters, and in some cases one unit.
+fn with_other_letters(units: &mut [u32], numbers: &mut Numbers) {
+    for unit in units.iter_mut() {
+        let is_letter = u8::try_from(*unit).is_ok_and(|byte| byte.is_ascii_alphabetic());
+        if is_letter && numbers.below(2) == 0 {
+            *unit ^= 0x20;
+        }
+    }
+    if !units.is_empty() && numbers.below(3) == 0 {
+        units[numbers.below(units.len() as u32) as usize] ^= 0x20;
+    }
+}
+
+/// The functions of one width that compare units and write letters in the other case.
+struct Cases<T> {
+    find: fn(&[T], &[T]) -> Option<usize>,
+    eq: fn(&[T], &[T]) -> bool,
+    lower: fn(&[T]) -> Vec<T>,
+    upper: fn(&[T]) -> Vec<T>,
+    unit: fn(u32) -> T,
+}
+
+impl<T: Copy + PartialEq + Debug + Into<u32>> Cases<T> {
+    fn of(&self, units: &[u32], change: fn(&u8) -> u8) -> Vec<T> {
+        let changed = units.iter().map(|unit| in_case(*unit, change));
+        changed.map(self.unit).collect()
+    }
+
+    fn check(&self, units: &[T], numbers: &mut Numbers) {
+        let wide: Vec<u32> = units.iter().map(|unit| (*unit).into()).collect();
+        let lower = self.of(&wide, u8::to_ascii_lowercase);
+        assert_eq!((self.lower)(units), lower);
+        assert_eq!((self.upper)(units), self.of(&wide, u8::to_ascii_uppercase));
+        let at = numbers.below(units.len() as u32 + 1) as usize;
+        let end = (at + numbers.below(9) as usize).min(units.len());
+        for part in [&wide[at..end], &wide] {
+            let mut other = part.to_vec();
+            with_other_letters(&mut other, numbers);
+            let (other, lower_other) = (
+                self.of(&other, |byte| *byte),
+                self.of(&other, u8::to_ascii_lowercase),
+            );
+            assert_eq!((self.find)(units, &other), offset_of(&lower, &lower_other));
+            assert_eq!((self.eq)(units, &other), lower == lower_other);
+        }
+    }
+}
+
+/// Returns the code points of UTF-16, of which an unpaired surrogate is one.
+fn code_points(units: &[u16]) -> Vec<u32> {
+    char::decode_utf16(units.iter().copied())
+        .map(|item| item.map_or_else(|error| error.unpaired_surrogate().into(), u32::from))
+        .collect()
+}
+
+/// Returns units that differ from some unit on, or do not.
+fn with_other_end<T: Copy>(units: &[T], numbers: &mut Numbers, any: impl Fn(u32) -> T) -> Vec<T> {
+    let at = numbers.below(units.len() as u32 + 1) as usize;
+    let mut other = units[..at].to_vec();
+    if numbers.below(2) == 0 {
+        let wild = [0xd83d, 0xde00, 0xe000, numbers.below(0x1_0000)];
+        other.push(any(wild[numbers.below(4) as usize]));
+    }
+    if numbers.below(2) == 0 {
+        other.extend_from_slice(units.get(other.len()..).unwrap_or_default());
+    }
+    other
+}
+
 fn check_utf16(units: &[u16], numbers: &mut Numbers) {
     let items: Items = char::decode_utf16(units.iter().copied())
         .map(Result::ok)
@@ -224,6 +306,7 @@ fn check_utf16(units: &[u16], numbers: &mut Numbers) {
         });
     }
     check_searches16(units, numbers);
+    check_comparisons16(units, numbers);
     check_bytes(units, &items, numbers);
 }
 
@@ -277,8 +360,23 @@ fn check_searches16(units: &[u16], numbers: &mut Numbers) {
     let at = numbers.below(units.len() as u32 + 1) as usize;
     let needle = &units[at..(at + numbers.below(9) as usize).min(units.len())];
     assert_eq!(utf16_find(units, needle), offset_of(units, needle));
+    assert_eq!(utf16_rfind(units, needle), last_offset_of(units, needle));
     assert_eq!(utf16_find_unit(units, 0x7a), offset_of(units, &[0x7a]));
     assert_eq!(utf16_first_nul(units), offset_of(units, &[0]));
+}
+
+fn check_comparisons16(units: &[u16], numbers: &mut Numbers) {
+    let cases = Cases {
+        find: utf16_find_ignore_ascii_case,
+        eq: utf16_eq_ignore_ascii_case,
+        lower: utf16_to_ascii_lowercase,
+        upper: utf16_to_ascii_uppercase,
+        unit: |unit| unit as u16,
+    };
+    cases.check(units, numbers);
+    let other = with_other_end(units, numbers, |wild| wild as u16);
+    let wanted = code_points(units).cmp(&code_points(&other));
+    assert_eq!(utf16_compare_code_points(units, &other), wanted);
 }
 
 fn check_utf32(units: &[u32], numbers: &mut Numbers) {
@@ -312,14 +410,29 @@ fn check_utf32(units: &[u32], numbers: &mut Numbers) {
         });
     }
     check_searches32(units, numbers);
+    check_comparisons32(units, numbers);
 }
 
 fn check_searches32(units: &[u32], numbers: &mut Numbers) {
     let at = numbers.below(units.len() as u32 + 1) as usize;
     let needle = &units[at..(at + numbers.below(9) as usize).min(units.len())];
     assert_eq!(utf32_find(units, needle), offset_of(units, needle));
+    assert_eq!(utf32_rfind(units, needle), last_offset_of(units, needle));
     assert_eq!(utf32_find_unit(units, 0x7a), offset_of(units, &[0x7a]));
     assert_eq!(utf32_first_nul(units), offset_of(units, &[0]));
+}
+
+fn check_comparisons32(units: &[u32], numbers: &mut Numbers) {
+    let cases = Cases {
+        find: utf32_find_ignore_ascii_case,
+        eq: utf32_eq_ignore_ascii_case,
+        lower: utf32_to_ascii_lowercase,
+        upper: utf32_to_ascii_uppercase,
+        unit: |unit| unit,
+    };
+    cases.check(units, numbers);
+    let other = with_other_end(units, numbers, |wild| wild);
+    assert_eq!(utf32_compare_code_points(units, &other), units.cmp(&other));
 }
 
 #[test]
