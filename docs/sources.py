@@ -80,7 +80,7 @@ def use_line(head, names, margin=""):
     short = f"{margin}{head}::{{{', '.join(listed)}}};"
     if len(short) <= WIDTH:
         return short
-    body = textwrap.fill(", ".join(listed) + ",", WIDTH - len(margin) - 4)
+    body = textwrap.fill(", ".join(listed), WIDTH - len(margin) - 4) + ","
     return textwrap.indent(f"{head}::{{\n{textwrap.indent(body, '    ')}\n}};", margin)
 
 

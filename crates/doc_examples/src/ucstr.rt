@@ -1,4 +1,5 @@
 //! The examples of `widestring::ucstr`.
+use std::cmp::Ordering;
 use std::test::Fail;
 use widestring::U16Str;
 use widestring::ucstr::{U16CStr, UStrInUcstr};
@@ -180,6 +181,49 @@ fn example_of_ucstr_find_char_from(rt: HostRuntime) -> Result<(), Fail> {
     let path = U16CStr::from_slice(&[0x61, 0x5c, 0xd800, 0x5c, 0])?;
     assert!(rt; path.find_char_from('\\', 2) == Some(3));
     assert!(rt; path.find_char_from('\0', 2).is_none());
+    Ok(())
+}
+
+#[test]
+fn example_of_ucstr_match_indices(rt: HostRuntime) -> Result<(), Fail> {
+    let path = U16CStr::from_slice(&[0x61, 0x2f, 0xd800, 0x2f, 0])?;
+    let mut found = path.match_indices(U16CStr::from_slice(&[0x2f, 0])?);
+    assert!(rt; found.next() == Some((1, U16Str::from_slice(&[0x2f]))));
+    assert!(rt; found.next() == Some((3, U16Str::from_slice(&[0x2f]))));
+    assert!(rt; found.next().is_none());
+    Ok(())
+}
+
+#[test]
+fn example_of_ucstr_match_indices_char(rt: HostRuntime) -> Result<(), Fail> {
+    let path = U16CStr::from_slice(&[0x61, 0x2f, 0xd800, 0x2f, 0])?;
+    let mut found = path.match_indices_char('/');
+    assert!(rt; found.next() == Some((1, U16Str::from_slice(&[0x2f]))));
+    assert!(rt; found.next() == Some((3, U16Str::from_slice(&[0x2f]))));
+    assert!(rt; found.next().is_none());
+    Ok(())
+}
+
+#[test]
+fn example_of_ucstr_matches(rt: HostRuntime) -> Result<(), Fail> {
+    let path = U16CStr::from_slice(&[0x61, 0x2f, 0xd800, 0x2f, 0])?;
+    assert!(rt; path.matches(U16CStr::from_slice(&[0x2f, 0])?).count() == 2);
+    Ok(())
+}
+
+#[test]
+fn example_of_ucstr_matches_char(rt: HostRuntime) -> Result<(), Fail> {
+    let path = U16CStr::from_slice(&[0x61, 0x2f, 0xd800, 0x2f, 0])?;
+    assert!(rt; path.matches_char('/').count() == 2);
+    Ok(())
+}
+
+#[test]
+fn example_of_ucstr_cmp_code_points(rt: HostRuntime) -> Result<(), Fail> {
+    let emoji = U16CStr::from_slice(&[0x61, 0xd83d, 0xde00, 0])?;
+    let letter = U16CStr::from_slice(&[0x61, 0xff21, 0])?;
+    assert!(rt; emoji < letter);
+    assert!(rt; emoji.cmp_code_points(letter) == Ordering::Greater);
     Ok(())
 }
 

@@ -1,8 +1,9 @@
 //! The examples of `widestring::ustr`.
+use std::cmp::Ordering;
 use std::test::Fail;
 use widestring::error::{DecodeUtf16Error, Utf16ConvertError, Utf32ConvertError};
 use widestring::ustr::{
-    AnyOf, BackView, InclusiveView, LineView, OneUnit, SplitN, SplitView, U16Str, U32Str,
+    AnyOf, BackView, InclusiveView, LineView, MatchView, OneUnit, SplitN, SplitView, U16Str, U32Str,
 };
 use widestring::{Policy, U16String};
 
@@ -309,6 +310,49 @@ fn example_of_ustr_find_char_from(rt: HostRuntime) -> Result<(), Fail> {
     assert!(rt; path.find_char_from('\\', 1) == Some(1));
     assert!(rt; path.find_char_from('\\', 2) == Some(3));
     assert!(rt; path.find_char_from('\\', 9).is_none());
+    Ok(())
+}
+
+#[test]
+fn example_of_ustr_match_indices(rt: HostRuntime) -> Result<(), Fail> {
+    let text = U16Str::from_slice(&[0x61, 0x61, 0x61, 0xd800, 0x61, 0x61]);
+    let mut found = text.match_indices(U16Str::from_slice(&[0x61, 0x61]));
+    assert!(rt; found.next() == Some((0, U16Str::from_slice(&[0x61, 0x61]))));
+    assert!(rt; found.next() == Some((4, U16Str::from_slice(&[0x61, 0x61]))));
+    assert!(rt; found.next().is_none());
+    Ok(())
+}
+
+#[test]
+fn example_of_ustr_match_indices_char(rt: HostRuntime) -> Result<(), Fail> {
+    let text = U16Str::from_slice(&[0xd83d, 0xde00, 0xd83d, 0x21, 0xd83d, 0xde00]);
+    let mut found = text.match_indices_char('😀');
+    assert!(rt; found.next().is_some_and(|(offset, _)| offset == 0));
+    assert!(rt; found.next().is_some_and(|(offset, _)| offset == 4));
+    assert!(rt; found.next().is_none());
+    Ok(())
+}
+
+#[test]
+fn example_of_ustr_matches(rt: HostRuntime) -> Result<(), Fail> {
+    let text = U16Str::from_slice(&[0x61, 0x61, 0x61, 0xd800, 0x61, 0x61]);
+    assert!(rt; text.matches(U16Str::from_slice(&[0x61, 0x61])).count() == 2);
+    Ok(())
+}
+
+#[test]
+fn example_of_ustr_matches_char(rt: HostRuntime) -> Result<(), Fail> {
+    let text = U16Str::from_slice(&[0xd83d, 0xde00, 0xd83d, 0x21, 0xd83d, 0xde00]);
+    assert!(rt; text.matches_char('😀').count() == 2);
+    Ok(())
+}
+
+#[test]
+fn example_of_ustr_cmp_code_points(rt: HostRuntime) -> Result<(), Fail> {
+    let emoji = U16Str::from_slice(&[0x61, 0xd83d, 0xde00]);
+    let letter = U16Str::from_slice(&[0x61, 0xff21]);
+    assert!(rt; emoji < letter);
+    assert!(rt; emoji.cmp_code_points(letter) == Ordering::Greater);
     Ok(())
 }
 
@@ -621,6 +665,29 @@ fn example_of_displayskipping(rt: HostRuntime) -> Result<(), Fail> {
     let shown = U16Str::from_slice(&[0x48, 0xdc00, 0x69, 0xfffd]).display_skipping();
     let text = shown.to_string(rt.alloc())?;
     assert!(rt; text.as_str() == "Hi");
+    Ok(())
+}
+
+#[test]
+fn example_of_matchview(rt: HostRuntime) -> Result<(), Fail> {
+    let list = U16Str::from_slice(&[0x61, 0x3b, 0x62]);
+    let found = list.first_match(';');
+    assert!(rt; found.is_some_and(|(at, found, rest)| at == found.len() && rest.len() == 1));
+    Ok(())
+}
+
+#[test]
+fn example_of_matchindices(rt: HostRuntime) -> Result<(), Fail> {
+    let list = U16Str::from_slice(&[0x61, 0x3b, 0x62, 0x3b]);
+    let last = list.match_indices(U16Str::from_slice(&[0x3b])).last();
+    assert!(rt; last.is_some_and(|(offset, _)| offset == 3));
+    Ok(())
+}
+
+#[test]
+fn example_of_matches(rt: HostRuntime) -> Result<(), Fail> {
+    let list = U16Str::from_slice(&[0x61, 0x3b, 0x62, 0x3b]);
+    assert!(rt; list.matches(U16Str::from_slice(&[0x3b])).count() == 2);
     Ok(())
 }
 

@@ -183,6 +183,15 @@ fn example_of_ustring_from_iter_ustrs(rt: HostRuntime) -> Result<(), Fail> {
 }
 
 #[test]
+fn example_of_ustring_replace_with(rt: HostRuntime) -> Result<(), Fail> {
+    let mut path = U16String::from_str(rt.alloc(), "C:/temp/é")?;
+    let backslash = U16Str::from_slice(&[0x5c]);
+    path.replace_with(U16Str::from_slice(&[0x2f]), backslash);
+    assert!(rt; path.as_ustr().chars_lossy().eq("C:\\temp\\é".chars()));
+    Ok(())
+}
+
+#[test]
 fn example_of_ustring_extend_from_within(rt: HostRuntime) -> Result<(), Fail> {
     let mut string = U16String::from_vec([0x61, 0xd83d, 0xde00].to_vec(rt.alloc())?);
     string.extend_from_within(..2)?;

@@ -427,6 +427,42 @@ fn example_of_utfstr_eq_str(rt: HostRuntime) -> Result<(), Fail> {
 }
 
 #[test]
+fn example_of_utfstr_match_indices(rt: HostRuntime) -> Result<(), Fail> {
+    let text = Utf16String::from_str(rt.alloc(), "x😀, 😀, y")?;
+    let comma = Utf16String::from_str(rt.alloc(), ", ")?;
+    let mut found = text.as_utfstr().match_indices(comma.as_utfstr());
+    assert!(rt; found.next() == Some((3, comma.as_utfstr())));
+    assert!(rt; found.next() == Some((7, comma.as_utfstr())));
+    assert!(rt; found.next().is_none());
+    Ok(())
+}
+
+#[test]
+fn example_of_utfstr_match_indices_char(rt: HostRuntime) -> Result<(), Fail> {
+    let text = Utf16Str::from_slice(&[0xd83d, 0xde00, 0x21, 0xd83d, 0xde00])?;
+    let mut found = text.match_indices_char('😀');
+    assert!(rt; found.next().is_some_and(|(offset, _)| offset == 0));
+    assert!(rt; found.next().is_some_and(|(offset, _)| offset == 3));
+    assert!(rt; found.next().is_none());
+    Ok(())
+}
+
+#[test]
+fn example_of_utfstr_matches(rt: HostRuntime) -> Result<(), Fail> {
+    let text = Utf16String::from_str(rt.alloc(), "aaa aa")?;
+    let needle = Utf16String::from_str(rt.alloc(), "aa")?;
+    assert!(rt; text.as_utfstr().matches(needle.as_utfstr()).count() == 2);
+    Ok(())
+}
+
+#[test]
+fn example_of_utfstr_matches_char(rt: HostRuntime) -> Result<(), Fail> {
+    let text = Utf16Str::from_slice(&[0xd83d, 0xde00, 0x21, 0xd83d, 0xde00])?;
+    assert!(rt; text.matches_char('😀').count() == 2);
+    Ok(())
+}
+
+#[test]
 fn example_of_utfstr_cmp_code_points(rt: HostRuntime) -> Result<(), Fail> {
     let emoji = Utf16Str::from_slice(&[0x61, 0xd83d, 0xde00])?;
     let letter = Utf16Str::from_slice(&[0x61, 0xff21])?;

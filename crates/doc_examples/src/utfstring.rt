@@ -287,6 +287,15 @@ fn example_of_utfstring_from_iter_utfstrs(rt: HostRuntime) -> Result<(), Fail> {
 }
 
 #[test]
+fn example_of_utfstring_replace_with(rt: HostRuntime) -> Result<(), Fail> {
+    let mut text = Utf16String::from_str(rt.alloc(), "a😀b😀")?;
+    let smile = Utf16Str::from_slice(&[0xd83d, 0xde00])?;
+    text.replace_with(smile, Utf16Str::from_slice(&[0xd83d, 0xde01])?);
+    assert!(rt; text.as_utfstr().eq_str("a😁b😁"));
+    Ok(())
+}
+
+#[test]
 fn example_of_utfstring_extend_from_within(rt: HostRuntime) -> Result<(), Fail> {
     let mut text = Utf16String::from_str(rt.alloc(), "é😀!")?;
     if let Some(at) = text.as_utfstr().find_char('😀') {

@@ -8,6 +8,8 @@ mod characters;
 mod compare;
 mod display;
 pub mod laws;
+mod matches;
+mod order;
 mod search;
 mod sets;
 mod split_more;

@@ -4,3 +4,4 @@ pub mod SubstringCounts
 pub mod Few
 pub mod Mirrored
 pub mod Inclusive
+pub mod Matched

@@ -9,5 +9,7 @@ pub mod SplitN
 pub mod SplitMore
 pub mod SplitBack
 pub mod SplitInclusive
+pub mod Matched
+pub mod MatchesLeft
 pub mod Sets
 pub mod Printed

@@ -11,7 +11,9 @@ pub mod laws;
 mod line_indices;
 mod lines;
 mod lossy_with;
+mod matches;
 mod offsets;
+mod order;
 mod search;
 mod sets;
 mod split;
@@ -31,6 +33,7 @@ pub use iter::{
 pub use line_indices::LineIndices;
 pub use lines::{LineView, Lines};
 pub use lossy_with::{CharsLossyWith, after_faults};
+pub use matches::{MatchIndices, MatchView, Matches};
 pub use sets::AnyOf;
 pub use split::{NeedleView, OneUnit, Split, SplitView};
 pub use split_back::{BackView, RSplit, RSplitN};

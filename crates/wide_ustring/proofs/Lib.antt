@@ -9,3 +9,4 @@ pub mod Repeats
 pub mod Copied
 pub mod Extends
 mod Moved
+mod Overwritten

@@ -9,6 +9,7 @@ mod display;
 pub mod extend;
 mod iter;
 mod moves;
+mod overwriting;
 mod space;
 mod ustring;
 mod view;

@@ -428,7 +428,7 @@ impl<C: FaultUnit, A: Allocator> UString<C, A> {
     /// Replaces the units of a range by the units of a view. The ends of the range are offsets in units.
     ///
     /// Each call moves all units after the range, so replacing each occurrence of a needle by this call in a loop is
-    /// quadratic. Build a new string from the substrings that `split` yields instead.
+    /// quadratic. `replace` of a view makes a new string, and [`UString::replace_with`] replaces by as many units in place.
     ///
     /// # Requires
     ///

@@ -12,3 +12,4 @@ mod Displayed
 mod Ordered
 mod Lowercase
 mod StrTexts
+mod Matched

@@ -10,6 +10,7 @@ mod display;
 mod escapes;
 mod iter;
 mod lines;
+mod matches;
 mod order;
 mod search;
 mod sets;

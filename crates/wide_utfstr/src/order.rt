@@ -7,35 +7,14 @@ ghost use Rattle.wide_utfstr.specs.View.{text_seen};
 
 use crate::view::UtfStr;
 use std::cmp::Ordering;
-use wide_unit::{Unit, common_prefix};
-
-// Compares two texts character by character, up to the first difference.
-fn compare_chars<C: Unit>(left: UtfStr<'_, C>, right: UtfStr<'_, C>) -> Ordering
-    ensures { result ≡ slice_cmp nat_cmp (text_seen left.entry) (text_seen right.entry) }
-{
-    let mut theirs = right.chars();
-    for c in left.chars() {
-        match theirs.next() {
-            None => return Ordering::Greater,
-            Some(d) => {
-                if c != d {
-                    return c.cmp(&d);
-                }
-            }
-        }
-    }
-    match theirs.next() {
-        None => Ordering::Equal,
-        Some(_) => Ordering::Less,
-    }
-}
+use wide_unit::Unit;
 
 impl<C: Unit> UtfStr<'_, C> {
     /// Compares two texts by the code points of their characters, as UTF-8 and UTF-32 are ordered. `<` and `cmp`
     /// compare units, which in UTF-16 puts characters past U+FFFF, whose first unit is a surrogate, before U+E000 to
     /// U+FFFF.
     ///
-    /// The prefix that both texts share is passed in SIMD lanes. Of what follows it, only the first character is
+    /// The prefix that both texts share is passed in SIMD lanes. Of what follows it, at most two characters of each are
     /// decoded.
     ///
     /// # Example
@@ -51,11 +30,7 @@ impl<C: Unit> UtfStr<'_, C> {
     pub fn cmp_code_points(self, other: UtfStr<'_, C>) -> Ordering
         ensures { result ≡ slice_cmp nat_cmp (text_seen self.entry) (text_seen other.entry) }
     {
-        let shared = common_prefix(self.as_slice(), other.as_slice());
-        let at = self.floor_char_boundary(shared);
-        let (_, ours) = self.split_at(at);
-        let (_, theirs) = other.split_at(at);
-        compare_chars(ours, theirs)
+        wide_unit::cmp_code_points(self.as_slice(), other.as_slice())
     }
 
     /// Compares the text with a `&str` by the code points of their characters, as two `&str` are compared. It reads both

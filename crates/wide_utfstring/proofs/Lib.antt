@@ -8,3 +8,4 @@ pub mod Changes
 mod Cased
 mod Lossies
 mod Copies
+mod Overwritten

@@ -12,6 +12,7 @@ mod display;
 mod extend;
 mod iter;
 mod lossy;
+mod overwriting;
 mod utfstring;
 mod view;
 mod within;

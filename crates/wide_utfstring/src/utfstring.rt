@@ -662,7 +662,7 @@ impl<C: FaultUnit, A: Allocator> UtfString<C, A> {
     /// the growth only, before any unit moves.
     ///
     /// Each call moves all units after the range, so replacing each occurrence of a needle by this call in a loop is
-    /// quadratic. Build a new string from the substrings that `split` yields instead.
+    /// quadratic. `replace` of a view makes a new string, and [`UtfString::replace_with`] replaces by as many units in place.
     ///
     /// # Requires
     ///

@@ -54,6 +54,8 @@ pub use Rattle.wide_ustr.specs.SplitN
 pub use Rattle.wide_ustr.specs.SplitMore
 pub use Rattle.wide_ustr.specs.SplitBack
 pub use Rattle.wide_ustr.specs.SplitInclusive
+pub use Rattle.wide_ustr.specs.Matched
+pub use Rattle.wide_ustr.specs.MatchesLeft
 pub use Rattle.wide_ustr.specs.Sets as UnitSets
 pub use Rattle.wide_ustr.specs.Printed
 pub use Rattle.wide_ustring.specs.Units

@@ -1,6 +1,6 @@
 //! Texts with occurrences replaced, ASCII letters in the other case, and the order by code points, at concrete units.
 ghost use Rattle.std.specs.Prelude.{◌≡◌, ◌∷◌, [], true, false, IfOk};
-ghost use Rattle.std.specs.declared.cmp.Ordering.TheVariants.{Greater};
+ghost use Rattle.std.specs.declared.cmp.Ordering.TheVariants.{Greater, Less};
 ghost use Rattle.widestring.specs.View.{units_seen, text_seen};
 
 use std::alloc::Global;
@@ -8,6 +8,7 @@ use std::cmp::Ordering;
 use widestring::error::OutOfMemory;
 use widestring::replace::{UStrReplace, UtfStrReplace};
 use widestring::search::laws;
+use widestring::unit::cmp_code_points;
 use widestring::ustring::UStrInUstring;
 use widestring::{U16Str, U16String, Utf16Str, Utf16String};
 
@@ -120,6 +121,37 @@ pub fn replaced_first_char(
     row.replacen(alloc, ';', comma, 1)
 }
 
+/// Replaces a needle that overlaps itself, in place.
+///
+/// # Requires
+///
+/// The units are `aaa`.
+pub fn overlapping_in_place(string: &mut U16String)
+    requires { string.old.units ≡ 0x61 ∷ 0x61 ∷ 0x61 ∷ [] }
+    ensures { string.new.units ≡ 0x62 ∷ 0x63 ∷ 0x61 ∷ [] }
+{
+    laws::worked_substrings();
+    string.replace_with(
+        U16Str::from_slice(&[0x61, 0x61]),
+        U16Str::from_slice(&[0x62, 0x63]),
+    );
+}
+
+/// Replaces each slash of a path by a backslash, in place.
+///
+/// # Requires
+///
+/// The path is `a/b/`.
+pub fn backslashes(path: &mut Utf16String, slash: Utf16Str<'_>, backslash: Utf16Str<'_>)
+    requires path { path.old.units ≡ 0x61 ∷ 0x2F ∷ 0x62 ∷ 0x2F ∷ [] }
+    requires slash { units_seen slash ≡ 0x2F ∷ [] }
+    requires backslash { units_seen backslash ≡ 0x5C ∷ [] }
+    ensures { path.new.units ≡ 0x61 ∷ 0x5C ∷ 0x62 ∷ 0x5C ∷ [] }
+{
+    laws::worked_substrings();
+    path.replace_with(slash, backslash);
+}
+
 /// Orders a character past U+FFFF, whose first unit is a surrogate, after U+FF21.
 ///
 /// # Requires
@@ -131,6 +163,23 @@ pub fn order_of_code_points(emoji: Utf16Str<'_>, letter: Utf16Str<'_>) -> Orderi
     ensures { result ≡ Greater }
 {
     emoji.cmp_code_points(letter)
+}
+
+/// Orders units that belong to no character by their numbers, and a pair by its character.
+pub fn order_of_units() -> (Ordering, Ordering)
+    ensures { result ≡ (Greater, Less) }
+{
+    let letter = U16Str::from_slice(&[0xFF21]);
+    let pair = U16Str::from_slice(&[0xD83D, 0xDE00]);
+    let half = U16Str::from_slice(&[0xD83D]);
+    (pair.cmp_code_points(letter), half.cmp_code_points(letter))
+}
+
+/// Orders slices: the second unit of a pair alone comes before the pair.
+pub fn order_of_slices() -> Ordering
+    ensures { result ≡ Less }
+{
+    cmp_code_points(&[0xDE00u16, 0xD83D], &[0xD83D, 0xDE00])
 }
 
 /// Compares names of registry keys, which differ in the case of their letters.

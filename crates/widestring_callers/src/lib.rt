@@ -15,6 +15,7 @@ pub mod examples_characters;
 pub mod examples_decoders;
 pub mod examples_faults;
 pub mod examples_ignoring_case;
+pub mod examples_matches;
 pub mod examples_printing;
 pub mod examples_replaced;
 pub mod examples_sets;

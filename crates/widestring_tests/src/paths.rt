@@ -116,9 +116,9 @@ pub mod ustr {
         AnyOf, BackView, CharIndices, CharIndicesLossy, CharIndicesLossyUtf16,
         CharIndicesLossyUtf32, CharIndicesUtf16, CharIndicesUtf32, Chars, CharsLossy,
         CharsLossyUtf16, CharsLossyUtf32, CharsLossyWith, CharsUtf16, CharsUtf32, Display,
-        DisplaySkipping, InclusiveView, LineIndices, LineView, Lines, NeedleView, OneUnit, RSplit,
-        RSplitN, Split, SplitFilled, SplitInclusive, SplitN, SplitTerminator, SplitView, U16Str,
-        U32Str, UStr, WideChar, WideStr, after_faults,
+        DisplaySkipping, InclusiveView, LineIndices, LineView, Lines, MatchIndices, MatchView,
+        Matches, NeedleView, OneUnit, RSplit, RSplitN, Split, SplitFilled, SplitInclusive, SplitN,
+        SplitTerminator, SplitView, U16Str, U32Str, UStr, WideChar, WideStr, after_faults,
     };
 }
 

@@ -15,6 +15,7 @@ mod items;
 mod kinds;
 mod lossy;
 mod made;
+mod matches;
 mod names;
 mod nocase;
 mod offsets;
@@ -103,13 +104,14 @@ enum OfUnits {
     Replaced,
     Splits,
     Backs,
+    Matches,
     Nocase,
     Terminated,
     Sets(SetCalls),
     Decoded(Decoder),
 }
 
-static OF_UNITS: [(&str, OfUnits); 28] = [
+static OF_UNITS: [(&str, OfUnits); 29] = [
     ("items", OfUnits::Decoded(Decoder::Strict)),
     ("lossy", OfUnits::Decoded(Decoder::Lossy)),
     ("hints_lossy", OfUnits::Decoded(Decoder::LossyHints)),
@@ -138,6 +140,7 @@ static OF_UNITS: [(&str, OfUnits); 28] = [
     ("trims", OfUnits::Sets(SetCalls::Trims)),
     ("terminated", OfUnits::Terminated),
     ("backs", OfUnits::Backs),
+    ("matches", OfUnits::Matches),
 ];
 
 impl Suite for ViewSuite {
@@ -256,6 +259,7 @@ fn with_units<C: Width>(
         OfUnits::Nocase => nocase::asked(memory, answer, units, question),
         OfUnits::Terminated => terminated::asked(memory, answer, units, question),
         OfUnits::Backs => backs::asked(memory, answer, units, question),
+        OfUnits::Matches => matches::asked(memory, answer, units, question),
         OfUnits::Sets(calls) => sets::asked(memory, answer, calls, units, question),
         OfUnits::Decoded(decoder) => decoded(memory, answer, decoder, units, question),
     }

@@ -1,11 +1,12 @@
-//! ASCII in units of either width, and the order of text by code points. A question is the letter of a view, as in
+//! ASCII in units of either width, and their order by code points. A question is the letter of a view, as in
 //! `kinds.rt`, a word for the call, and the units of another list, if there are two: `u lower`, `t order 61 62`.
 //!
 //! - `ascii` is whether all units are ASCII, and `same` whether both lists are the same without regard to the case of
 //!   ASCII letters: `1` or `0`.
 //! - `lower` and `upper` are the units of a new string with its ASCII letters in that case. It makes one request for
 //!   memory, and none if it has no units; else the answer has a `?`.
-//! - `order` is the order of two texts by the code points of their characters: `<`, `=` or `>`.
+//! - `order` is the order of two lists by code points, where a unit that belongs to no character is one: `<`, `=` or
+//!   `>`.
 use crate::groups::kinds::{self, Kind};
 use crate::groups::made;
 use crate::groups::width::{Width, as_contents, as_text};
@@ -49,7 +50,7 @@ fn of_units<C: Width>(
         Call::Same => answer.decided(view.eq_ignore_ascii_case(other)),
         Call::Lower => made::units(memory, answer, left, view.to_ascii_lowercase(heap)),
         Call::Upper => made::units(memory, answer, left, view.to_ascii_uppercase(heap)),
-        Call::Order => answer.fail(NoAnswer::Unparsed),
+        Call::Order => answer.order(view.cmp_code_points(other)),
     }
 }
 
@@ -83,7 +84,7 @@ fn of_contents<C: Width>(
         Call::Same => answer.decided(view.eq_ignore_ascii_case(other)),
         Call::Lower => made::contents(memory, answer, left, view.to_ascii_lowercase(heap)),
         Call::Upper => made::contents(memory, answer, left, view.to_ascii_uppercase(heap)),
-        Call::Order => answer.fail(NoAnswer::Unparsed),
+        Call::Order => answer.order(view.cmp_code_points(other)),
     }
 }
 

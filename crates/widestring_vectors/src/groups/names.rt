@@ -1,7 +1,7 @@
 //! The names of the groups.
 
 /// The groups, in the order in which they are printed.
-pub static GROUPS: [&str; 63] = [
+pub static GROUPS: [&str; 65] = [
     "items16",
     "items32",
     "lossy16",
@@ -65,6 +65,8 @@ pub static GROUPS: [&str; 63] = [
     "terminated32",
     "backs16",
     "backs32",
+    "matches16",
+    "matches32",
 ];
 
 /// The groups with corrected answers, and the crate's faults.

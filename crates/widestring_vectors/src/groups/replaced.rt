@@ -1,17 +1,21 @@
 //! Units and text with occurrences of a needle replaced, in a new string. A question is the letter of a view and a
-//! space, a needle, a colon, the units that replace it, a colon, and how many occurrences are replaced, or a `-` for
-//! all.
+//! space, a needle, a colon, the units that replace it, a colon, and how many occurrences are replaced, a `-` for all,
+//! or an `i` for all in a copy of the units, in place, by as many units as the needle has.
 //!
 //! The view is units (`u`), or the text of the units, in which the needle is a text (`t`) or a character (`c`). The
 //! answer has the units of the new string. It makes one request for memory, and none if it has no units; else the
 //! answer has a `?`.
 use crate::groups::made;
 use crate::groups::width::{Width, as_text};
+use widestring::error::OutOfMemory;
 use widestring::replace::{UStrReplace, UtfStrReplace};
 use widestring::ustr::UStr;
+use widestring::ustring::{UStrInUstring, UString};
 use widestring::utfstr::UtfStr;
+use widestring::utfstring::{UtfStrInUtfstring, UtfString};
 use widestring_replay::parse::{self, Memory, NoAnswer};
 use widestring_replay::show::Answer;
+use widestring_testing::Heap;
 
 // The needles.
 #[derive(Clone, Copy)]
@@ -23,9 +27,44 @@ enum Kind {
 
 static KINDS: [(&str, Kind); 3] = [("u", Kind::Units), ("t", Kind::Text), ("c", Kind::Char)];
 
-// A parsed question: the needle's kind, the needle, the units that replace it, and how many occurrences are replaced,
-// or `None` for all.
-type Parts<'q> = (Kind, &'q str, &'q str, Option<usize>);
+// How occurrences are replaced: all, at most a number of them, or all in place.
+#[derive(Clone, Copy)]
+enum How {
+    All,
+    First(usize),
+    InPlace,
+}
+
+// A parsed question: the needle's kind, the needle, the units that replace it, and how occurrences are replaced.
+type Parts<'q> = (Kind, &'q str, &'q str, How);
+
+// Returns a copy of the units in which occurrences are replaced in place, if the lengths are equal.
+fn copied_units<'h, C: Width>(
+    heap: &'h Heap,
+    view: UStr<'_, C>,
+    needle: UStr<'_, C>,
+    with: UStr<'_, C>,
+) -> Result<UString<C, &'h Heap>, OutOfMemory> {
+    let mut string = view.to_ustring(heap)?;
+    if with.len() == needle.len() {
+        string.replace_with(needle, with);
+    }
+    Ok(string)
+}
+
+// Returns a copy of the text in which occurrences are replaced in place, if the lengths are equal.
+fn copied_text<'h, C: Width>(
+    heap: &'h Heap,
+    text: UtfStr<'_, C>,
+    needle: UtfStr<'_, C>,
+    with: UtfStr<'_, C>,
+) -> Result<UtfString<C, &'h Heap>, OutOfMemory> {
+    let mut string = text.to_utfstring(heap)?;
+    if with.len() == needle.len() {
+        string.replace_with(needle, with);
+    }
+    Ok(string)
+}
 
 fn in_units<C: Width>(
     memory: Memory<'_>,
@@ -33,12 +72,13 @@ fn in_units<C: Width>(
     view: UStr<'_, C>,
     needle: UStr<'_, C>,
     with: UStr<'_, C>,
-    count: Option<usize>,
+    how: How,
 ) {
     let (heap, left) = (memory.heap, memory.heap.left());
-    let made = match count {
-        None => view.replace(heap, needle, with),
-        Some(count) => view.replacen(heap, needle, with, count),
+    let made = match how {
+        How::All => view.replace(heap, needle, with),
+        How::First(count) => view.replacen(heap, needle, with, count),
+        How::InPlace => copied_units(heap, view, needle, with),
     };
     made::units(memory, answer, left, made);
 }
@@ -49,12 +89,13 @@ fn in_text<C: Width>(
     text: UtfStr<'_, C>,
     needle: UtfStr<'_, C>,
     with: UtfStr<'_, C>,
-    count: Option<usize>,
+    how: How,
 ) {
     let (heap, left) = (memory.heap, memory.heap.left());
-    let made = match count {
-        None => text.replace(heap, needle, with),
-        Some(count) => text.replacen(heap, needle, with, count),
+    let made = match how {
+        How::All => text.replace(heap, needle, with),
+        How::First(count) => text.replacen(heap, needle, with, count),
+        How::InPlace => copied_text(heap, text, needle, with),
     };
     made::text(memory, answer, left, made);
 }
@@ -65,12 +106,12 @@ fn char_in_text<C: Width>(
     text: UtfStr<'_, C>,
     c: char,
     with: UtfStr<'_, C>,
-    count: Option<usize>,
+    how: How,
 ) {
     let (heap, left) = (memory.heap, memory.heap.left());
-    let made = match count {
-        None => text.replace(heap, c, with),
-        Some(count) => text.replacen(heap, c, with, count),
+    let made = match how {
+        How::First(count) => text.replacen(heap, c, with, count),
+        _ => text.replace(heap, c, with),
     };
     made::text(memory, answer, left, made);
 }
@@ -83,16 +124,16 @@ fn replaced<C: Width>(
     units: &[C],
     needle: &[C],
     with: &[C],
-    count: Option<usize>,
+    how: How,
 ) {
     match kind {
         Kind::Units => {
             let (view, needle) = (UStr::from_slice(units), UStr::from_slice(needle));
-            in_units(memory, answer, view, needle, UStr::from_slice(with), count);
+            in_units(memory, answer, view, needle, UStr::from_slice(with), how);
         }
         _ => match (as_text(units), as_text(needle), as_text(with)) {
             (Ok(text), Ok(needle), Ok(with)) => {
-                in_text(memory, answer, text, needle, with, count);
+                in_text(memory, answer, text, needle, with, how);
             }
             _ => answer.fail(NoAnswer::Unparsed),
         },
@@ -105,10 +146,10 @@ fn char_replaced<C: Width>(
     units: &[C],
     c: char,
     with: &[C],
-    count: Option<usize>,
+    how: How,
 ) {
     match (as_text(units), as_text(with)) {
-        (Ok(text), Ok(with)) => char_in_text(memory, answer, text, c, with, count),
+        (Ok(text), Ok(with)) => char_in_text(memory, answer, text, c, with, how),
         _ => answer.fail(NoAnswer::Unparsed),
     }
 }
@@ -116,34 +157,35 @@ fn char_replaced<C: Width>(
 fn with_needle<C: Width>(
     memory: Memory<'_>,
     answer: &mut Answer,
-    (kind, needle, _, count): Parts<'_>,
+    (kind, needle, _, how): Parts<'_>,
     units: &[C],
     with: &[C],
 ) {
     match kind {
         Kind::Char => match parse::value(needle) {
-            Ok(c) => char_replaced(memory, answer, units, c, with, count),
+            Ok(c) => char_replaced(memory, answer, units, c, with, how),
             Err(error) => answer.fail(error),
         },
         _ => match parse::list::<C>(memory.alloc, needle) {
-            Ok(needle) => replaced(memory, answer, kind, units, &needle, with, count),
+            Ok(needle) => replaced(memory, answer, kind, units, &needle, with, how),
             Err(error) => answer.fail(error),
         },
     }
 }
 
-fn count_of(count: &str) -> Result<Option<usize>, NoAnswer> {
-    match count {
-        "-" => Ok(None),
-        _ => Ok(Some(parse::value(count)?)),
+fn how(word: &str) -> Result<How, NoAnswer> {
+    match word {
+        "-" => Ok(How::All),
+        "i" => Ok(How::InPlace),
+        _ => Ok(How::First(parse::value(word)?)),
     }
 }
 
 fn parsed(question: &str) -> Result<Parts<'_>, NoAnswer> {
     let (kind, rest) = parse::word(question);
     let (needle, rest) = parse::parts(rest)?;
-    let (with, count) = parse::parts(rest)?;
-    Ok((parse::named(&KINDS, kind)?, needle, with, count_of(count)?))
+    let (with, word) = parse::parts(rest)?;
+    Ok((parse::named(&KINDS, kind)?, needle, with, how(word)?))
 }
 
 fn with_parts<C: Width>(memory: Memory<'_>, answer: &mut Answer, parts: Parts<'_>, units: &[C]) {
