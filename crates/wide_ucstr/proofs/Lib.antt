@@ -1,2 +1,2 @@
-pub mod Order
+pub mod Compared
 pub mod Cuts
