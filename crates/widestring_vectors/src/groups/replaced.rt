@@ -173,7 +173,7 @@ fn with_needle<C: Width>(
     }
 }
 
-fn how(word: &str) -> Result<How, NoAnswer> {
+fn way_of(word: &str) -> Result<How, NoAnswer> {
     match word {
         "-" => Ok(How::All),
         "i" => Ok(How::InPlace),
@@ -185,7 +185,7 @@ fn parsed(question: &str) -> Result<Parts<'_>, NoAnswer> {
     let (kind, rest) = parse::word(question);
     let (needle, rest) = parse::parts(rest)?;
     let (with, word) = parse::parts(rest)?;
-    Ok((parse::named(&KINDS, kind)?, needle, with, how(word)?))
+    Ok((parse::named(&KINDS, kind)?, needle, with, way_of(word)?))
 }
 
 fn with_parts<C: Width>(memory: Memory<'_>, answer: &mut Answer, parts: Parts<'_>, units: &[C]) {
