@@ -1,9 +1,7 @@
 //! Matches of a needle, at concrete units, and passed to other calls.
 ghost use Rattle.std.specs.Prelude.{◌≡◌, ◌∷◌, []};
-ghost use Rattle.widestring.specs.EncodingForm.{Utf16, Utf32};
 ghost use Rattle.widestring.specs.MatchesLeft.{matches_left, found_left};
 ghost use Rattle.widestring.specs.UnitView.{units_seen};
-ghost use Rattle.widestring.specs.View.{units_seen as text_units};
 
 use widestring::search::laws;
 use widestring::ustr::{MatchIndices, Matches};
@@ -14,29 +12,13 @@ use widestring::{U16Str, U32Str, Utf16Str};
 /// # Requires
 ///
 /// The units are `aaaaa`, and the needle is `aa`.
-pub fn overlapping<'a>(
-    units: U16Str<'a>,
-    needle: U16Str<'a>,
-) -> MatchIndices<U16Str<'a>, U16Str<'a>>
+pub fn overlapping<'a>(units: U16Str<'a>, needle: U16Str<'a>) -> Matches<U16Str<'a>, U16Str<'a>>
     requires units { units_seen units ≡ 0x61 ∷ 0x61 ∷ 0x61 ∷ 0x61 ∷ 0x61 ∷ [] }
     requires needle { units_seen needle ≡ 0x61 ∷ 0x61 ∷ [] }
-    ensures { matches_left result ≡ (0, 0x61 ∷ 0x61 ∷ []) ∷ (2, 0x61 ∷ 0x61 ∷ []) ∷ [] }
+    ensures { found_left result ≡ (0x61 ∷ 0x61 ∷ []) ∷ (0x61 ∷ 0x61 ∷ []) ∷ [] }
 {
     laws::worked_substrings();
-    units.match_indices(needle)
-}
-
-/// Finds a character at the start and at the end of text.
-///
-/// # Requires
-///
-/// The text is `;b;`.
-pub fn at_both_ends(text: Utf16Str<'_>) -> MatchIndices<Utf16Str<'_>, char>
-    requires { text_units text ≡ 0x3B ∷ 0x62 ∷ 0x3B ∷ [] }
-    ensures { matches_left result ≡ (0, 0x3B ∷ []) ∷ (2, 0x3B ∷ []) ∷ [] }
-{
-    laws::worked_substrings();
-    text.match_indices_char(';')
+    units.matches(needle)
 }
 
 /// Finds a character twice.

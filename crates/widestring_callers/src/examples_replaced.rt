@@ -1,6 +1,6 @@
 //! Texts with occurrences replaced, ASCII letters in the other case, and the order by code points, at concrete units.
 ghost use Rattle.std.specs.Prelude.{◌≡◌, ◌∷◌, [], true, false, IfOk};
-ghost use Rattle.std.specs.declared.cmp.Ordering.TheVariants.{Greater, Less};
+ghost use Rattle.std.specs.declared.cmp.Ordering.TheVariants.{Greater};
 ghost use Rattle.widestring.specs.View.{units_seen, text_seen};
 
 use std::alloc::Global;
@@ -137,19 +137,13 @@ pub fn overlapping_in_place(string: &mut U16String)
     );
 }
 
-/// Replaces each slash of a path by a backslash, in place.
-///
-/// # Requires
-///
-/// The path is `a/b/`.
-pub fn backslashes(path: &mut Utf16String, slash: Utf16Str<'_>, backslash: Utf16Str<'_>)
-    requires path { path.old.units ≡ 0x61 ∷ 0x2F ∷ 0x62 ∷ 0x2F ∷ [] }
-    requires slash { units_seen slash ≡ 0x2F ∷ [] }
-    requires backslash { units_seen backslash ≡ 0x5C ∷ [] }
-    ensures { path.new.units ≡ 0x61 ∷ 0x5C ∷ 0x62 ∷ 0x5C ∷ [] }
-{
-    laws::worked_substrings();
-    path.replace_with(slash, backslash);
+/// Replaces each occurrence of a word in place, if the other one is as long.
+pub fn replaced_in_text(text: &mut Utf16String, word: Utf16Str<'_>, other: Utf16Str<'_>) -> bool {
+    if word.len() != other.len() {
+        return false;
+    }
+    text.replace_with(word, other);
+    true
 }
 
 /// Orders a character past U+FFFF, whose first unit is a surrogate, after U+FF21.
@@ -165,21 +159,14 @@ pub fn order_of_code_points(emoji: Utf16Str<'_>, letter: Utf16Str<'_>) -> Orderi
     emoji.cmp_code_points(letter)
 }
 
-/// Orders units that belong to no character by their numbers, and a pair by its character.
-pub fn order_of_units() -> (Ordering, Ordering)
-    ensures { result ≡ (Greater, Less) }
-{
-    let letter = U16Str::from_slice(&[0xFF21]);
-    let pair = U16Str::from_slice(&[0xD83D, 0xDE00]);
-    let half = U16Str::from_slice(&[0xD83D]);
-    (pair.cmp_code_points(letter), half.cmp_code_points(letter))
+/// Returns whether units come first by code points, which need not be well formed.
+pub fn is_before(units: U16Str<'_>, other: U16Str<'_>) -> bool {
+    units.cmp_code_points(other) == Ordering::Less
 }
 
-/// Orders slices: the second unit of a pair alone comes before the pair.
-pub fn order_of_slices() -> Ordering
-    ensures { result ≡ Less }
-{
-    cmp_code_points(&[0xDE00u16, 0xD83D], &[0xD83D, 0xDE00])
+/// Returns whether slices of units are in order by code points.
+pub fn are_in_order(units: &[u16], other: &[u16]) -> bool {
+    cmp_code_points(units, other) != Ordering::Greater
 }
 
 /// Compares names of registry keys, which differ in the case of their letters.
