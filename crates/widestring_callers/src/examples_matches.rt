@@ -2,23 +2,40 @@
 ghost use Rattle.std.specs.Prelude.{◌≡◌, ◌∷◌, []};
 ghost use Rattle.widestring.specs.MatchesLeft.{matches_left, found_left};
 ghost use Rattle.widestring.specs.UnitView.{units_seen};
+ghost use Rattle.widestring.specs.View.{units_seen as text_units};
 
 use widestring::search::laws;
 use widestring::ustr::{MatchIndices, Matches};
 use widestring::{U16Str, U32Str, Utf16Str};
 
-/// Finds a needle that overlaps itself: the next match begins after the one before.
+/// Finds a needle that overlaps itself: no match begins within the one before.
 ///
 /// # Requires
 ///
-/// The units are `aaaaa`, and the needle is `aa`.
-pub fn overlapping<'a>(units: U16Str<'a>, needle: U16Str<'a>) -> Matches<U16Str<'a>, U16Str<'a>>
-    requires units { units_seen units ≡ 0x61 ∷ 0x61 ∷ 0x61 ∷ 0x61 ∷ 0x61 ∷ [] }
+/// The units are `aaa`, and the needle is `aa`.
+pub fn overlapping<'a>(
+    units: U16Str<'a>,
+    needle: U16Str<'a>,
+) -> MatchIndices<U16Str<'a>, U16Str<'a>>
+    requires units { units_seen units ≡ 0x61 ∷ 0x61 ∷ 0x61 ∷ [] }
     requires needle { units_seen needle ≡ 0x61 ∷ 0x61 ∷ [] }
-    ensures { found_left result ≡ (0x61 ∷ 0x61 ∷ []) ∷ (0x61 ∷ 0x61 ∷ []) ∷ [] }
+    ensures { matches_left result ≡ (0, 0x61 ∷ 0x61 ∷ []) ∷ [] }
 {
     laws::worked_substrings();
-    units.matches(needle)
+    units.match_indices(needle)
+}
+
+/// Finds a character of text, the second time at the end.
+///
+/// # Requires
+///
+/// The text is `a;b;`.
+pub fn at_the_end(text: Utf16Str<'_>) -> MatchIndices<Utf16Str<'_>, char>
+    requires { text_units text ≡ 0x61 ∷ 0x3B ∷ 0x62 ∷ 0x3B ∷ [] }
+    ensures { matches_left result ≡ (1, 0x3B ∷ []) ∷ (3, 0x3B ∷ []) ∷ [] }
+{
+    laws::worked_substrings();
+    text.match_indices_char(';')
 }
 
 /// Finds a character twice.

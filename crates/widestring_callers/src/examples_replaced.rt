@@ -137,6 +137,21 @@ pub fn overlapping_in_place(string: &mut U16String)
     );
 }
 
+/// Replaces each separator of text in place, also the one at the end.
+///
+/// # Requires
+///
+/// The text is `a;b;`, the separator a semicolon, and what replaces it a comma.
+pub fn commas(row: &mut Utf16String, separator: Utf16Str<'_>, comma: Utf16Str<'_>)
+    requires row { row.old.units ≡ 0x61 ∷ 0x3B ∷ 0x62 ∷ 0x3B ∷ [] }
+    requires separator { units_seen separator ≡ 0x3B ∷ [] }
+    requires comma { units_seen comma ≡ 0x2C ∷ [] }
+    ensures { row.new.units ≡ 0x61 ∷ 0x2C ∷ 0x62 ∷ 0x2C ∷ [] }
+{
+    laws::worked_substrings();
+    row.replace_with(separator, comma);
+}
+
 /// Replaces each occurrence of a word in place, if the other one is as long.
 pub fn replaced_in_text(text: &mut Utf16String, word: Utf16Str<'_>, other: Utf16Str<'_>) -> bool {
     if word.len() != other.len() {
