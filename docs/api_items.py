@@ -342,7 +342,8 @@ def impls_section(group, level):
     words = {word: origin for impl in impls for it in impl for word, origin in it.words.items()}
     stated = [impl_lines(impl) for impl in impls if len(impl) > 1 or impl[0].doc]
     lines = [line for impl in stated for line in [*impl, ""]][:-1]
-    text = joined(code([impl[0].head for impl in impls], "rust"), contract(lines, words, "What these impls state"))
+    note = "" if is_type else "A type that has a page of its own has its impls there."
+    text = joined(note, code([impl[0].head for impl in impls], "rust"), contract(lines, words, "What these impls state"))
     yield Section(level, title, "", "", "", text)
 
 
