@@ -3,7 +3,8 @@ use std::cmp::Ordering;
 use std::test::Fail;
 use widestring::error::{DecodeUtf16Error, Utf16ConvertError, Utf32ConvertError};
 use widestring::ustr::{
-    AnyOf, BackView, InclusiveView, LineView, MatchView, OneUnit, SplitN, SplitView, U16Str, U32Str,
+    AnyOf, BackView, DoubleEndedView, InclusiveBackView, InclusiveView, LineView, MatchBackView,
+    MatchView, OneUnit, SplitN, SplitView, U16Str, U32Str,
 };
 use widestring::{Policy, U16String};
 
@@ -647,8 +648,10 @@ fn example_of_oneunit(rt: HostRuntime) -> Result<(), Fail> {
 #[test]
 fn example_of_split(rt: HostRuntime) -> Result<(), Fail> {
     let path = U16Str::from_slice(&[0x43, 0x3a, 0x5c, 0x74, 0x5c, 0xe9]);
-    let parts = path.split(U16Str::from_slice(&[0x5c]));
-    assert!(rt; parts.count() == 3);
+    let mut parts = path.split_char('\\');
+    assert!(rt; parts.next_back() == Some(U16Str::from_slice(&[0xe9])));
+    assert!(rt; parts.next() == Some(U16Str::from_slice(&[0x43, 0x3a])));
+    assert!(rt; parts.count() == 1);
     Ok(())
 }
 
@@ -677,10 +680,20 @@ fn example_of_matchview(rt: HostRuntime) -> Result<(), Fail> {
 }
 
 #[test]
+fn example_of_matchbackview(rt: HostRuntime) -> Result<(), Fail> {
+    let list = U16Str::from_slice(&[0x61, 0x3b, 0x62, 0x3b]);
+    let found = list.last_match(';');
+    assert!(rt; found.is_some_and(|(before, found)| before.len() == 3 && found.len() == 1));
+    Ok(())
+}
+
+#[test]
 fn example_of_matchindices(rt: HostRuntime) -> Result<(), Fail> {
     let list = U16Str::from_slice(&[0x61, 0x3b, 0x62, 0x3b]);
-    let last = list.match_indices(U16Str::from_slice(&[0x3b])).last();
-    assert!(rt; last.is_some_and(|(offset, _)| offset == 3));
+    let mut found = list.match_indices_char(';');
+    assert!(rt; found.next_back().is_some_and(|(offset, _)| offset == 3));
+    assert!(rt; found.next_back().is_some_and(|(offset, _)| offset == 1));
+    assert!(rt; found.next_back().is_none());
     Ok(())
 }
 
@@ -725,9 +738,19 @@ fn example_of_rsplitn(rt: HostRuntime) -> Result<(), Fail> {
 }
 
 #[test]
+fn example_of_doubleendedview(rt: HostRuntime) -> Result<(), Fail> {
+    let path = U16Str::from_slice(&[0x61, 0x2f, 0x62, 0x2f, 0x63]);
+    let parts = path.cut_off_last('/');
+    assert!(rt; parts.is_some_and(|(folder, file)| folder.len() == 3 && file.len() == 1));
+    Ok(())
+}
+
+#[test]
 fn example_of_splitfilled(rt: HostRuntime) -> Result<(), Fail> {
     let line = U16Str::from_slice(&[0x20, 0x61, 0x9, 0x20, 0x62]);
-    assert!(rt; line.split_whitespace().count() == 2);
+    let mut words = line.split_whitespace();
+    assert!(rt; words.next_back() == Some(U16Str::from_slice(&[0x62])));
+    assert!(rt; words.count() == 1);
     Ok(())
 }
 
@@ -740,10 +763,19 @@ fn example_of_inclusiveview(rt: HostRuntime) -> Result<(), Fail> {
 }
 
 #[test]
+fn example_of_inclusivebackview(rt: HostRuntime) -> Result<(), Fail> {
+    let list = U16Str::from_slice(&[0x61, 0x3b, 0x62, 0x3b]);
+    let parts = list.cut_off_inclusive(';');
+    assert!(rt; parts.is_some_and(|(rest, last)| rest.len() == 2 && last.len() == 2));
+    Ok(())
+}
+
+#[test]
 fn example_of_splitinclusive(rt: HostRuntime) -> Result<(), Fail> {
     let list = U16Str::from_slice(&[0x61, 0x3b, 0x62, 0x3b]);
-    let parts = list.split_inclusive(U16Str::from_slice(&[0x3b]));
-    assert!(rt; parts.count() == 2);
+    let mut parts = list.split_inclusive_char(';');
+    assert!(rt; parts.next_back() == Some(U16Str::from_slice(&[0x62, 0x3b])));
+    assert!(rt; parts.count() == 1);
     Ok(())
 }
 
@@ -758,7 +790,8 @@ fn example_of_splitn(rt: HostRuntime) -> Result<(), Fail> {
 #[test]
 fn example_of_splitterminator(rt: HostRuntime) -> Result<(), Fail> {
     let list = U16Str::from_slice(&[0x61, 0x3b, 0x62, 0x3b]);
-    let parts = list.split_terminator(U16Str::from_slice(&[0x3b]));
-    assert!(rt; parts.count() == 2);
+    let mut parts = list.split_terminator_char(';');
+    assert!(rt; parts.next_back() == Some(U16Str::from_slice(&[0x62])));
+    assert!(rt; parts.count() == 1);
     Ok(())
 }

@@ -129,6 +129,13 @@ fn example_of_utfstr_encode_utf32(rt: HostRuntime) -> Result<(), Fail> {
 }
 
 #[test]
+fn example_of_utfstr_char_at(rt: HostRuntime) -> Result<(), Fail> {
+    let text = Utf32Str::from_slice(&[0x61, 0x1f600])?;
+    assert!(rt; text.len() == 2 && text.char_at(1) == '😀');
+    Ok(())
+}
+
+#[test]
 fn example_of_utfstr_encode_utf16(rt: HostRuntime) -> Result<(), Fail> {
     let mut units = Utf32Str::from_slice(&[0x1f600])?.encode_utf16();
     assert!(rt; units.next() == Some(0xd83d));
@@ -262,6 +269,21 @@ fn example_of_utfstr_rsplit_once(rt: HostRuntime) -> Result<(), Fail> {
     let path = Utf16Str::from_slice(&[0x61, 0x2f, 0xe9, 0x2f, 0x62])?;
     let parts = path.rsplit_once(Utf16Str::from_slice(&[0x2f])?);
     assert!(rt; parts.is_some_and(|(folder, name)| folder.eq_str("a/é") && name.eq_str("b")));
+    Ok(())
+}
+
+#[test]
+fn example_of_utfstr_floor_char_boundary(rt: HostRuntime) -> Result<(), Fail> {
+    let text = Utf16Str::from_slice(&[0x61, 0xd83d, 0xde00])?;
+    assert!(rt; text.floor_char_boundary(2) == 1);
+    assert!(rt; text.floor_char_boundary(9) == 3);
+    Ok(())
+}
+
+#[test]
+fn example_of_utfstr_ceil_char_boundary(rt: HostRuntime) -> Result<(), Fail> {
+    let text = Utf16Str::from_slice(&[0x61, 0xd83d, 0xde00])?;
+    assert!(rt; text.ceil_char_boundary(2) == 3);
     Ok(())
 }
 

@@ -101,7 +101,7 @@ impl<'a, C: FaultUnit> UCStr<'a, C> {
     /// Returns the offset, in units from the start, of the first occurrence of the character in the contents that
     /// begins at the offset `from`, in units too, or after it. Returns `None` if there is none, or if `from` exceeds
     /// the length of the contents. A NUL is never found. Half of a surrogate pair is no character and is not found, so
-    /// both the offset and the end of the character are between two items (`wide_search::laws::needles_in_text`).
+    /// both the offset and the end of the character are between two items (`widestring::search::laws::needles_in_text`).
     ///
     /// # Example
     ///

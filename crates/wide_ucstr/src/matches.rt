@@ -36,7 +36,7 @@ impl<'a, C: FaultUnit> UCStr<'a, C> {
         self.as_ustr().match_indices(needle.as_ustr())
     }
 
-    /// Returns an iterator over the matches of a character in the contents, from the front, each with its offset in
+    /// Returns an iterator over the matches of a character in the contents, from both ends, each with its offset in
     /// units, as views without a NUL. Half of a surrogate pair is no character and matches none, and neither does the
     /// NUL at the end match U+0000.
     ///
@@ -78,7 +78,7 @@ impl<'a, C: FaultUnit> UCStr<'a, C> {
         self.as_ustr().matches(needle.as_ustr())
     }
 
-    /// Returns an iterator over the matches of a character in the contents, from the front, as views without a NUL. Half
+    /// Returns an iterator over the matches of a character in the contents, from both ends, as views without a NUL. Half
     /// of a surrogate pair is no character and matches none.
     ///
     /// # Example

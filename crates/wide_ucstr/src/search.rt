@@ -85,7 +85,7 @@ impl<'a, C: FaultUnit> UCStr<'a, C> {
 
     /// Returns the offset, in units, of the first occurrence of the character in the contents, or `None` if there is
     /// none. Half of a surrogate pair is no character and is not found, so both the offset and the end of the character
-    /// are between two items (`wide_search::laws::needles_in_text`).
+    /// are between two items (`widestring::search::laws::needles_in_text`).
     pub fn find_char(self, c: char) -> Option<usize>
         ensures first { IfSome result (IsFirstAt (code_units C.form c) (map C.number (contents_seen self.entry))) }
         ensures none { IfNone result (OccursNowhere (code_units C.form c) (map C.number (contents_seen self.entry))) }
@@ -96,7 +96,7 @@ impl<'a, C: FaultUnit> UCStr<'a, C> {
 
     /// Returns the offset, in units, of the last occurrence of the character in the contents, or `None` if there is
     /// none. Half of a surrogate pair is no character and is not found, so both the offset and the end of the character
-    /// are between two items (`wide_search::laws::needles_in_text`).
+    /// are between two items (`widestring::search::laws::needles_in_text`).
     pub fn rfind_char(self, c: char) -> Option<usize>
         ensures last { IfSome result (IsLastAt (code_units C.form c) (map C.number (contents_seen self.entry))) }
         ensures none { IfNone result (OccursNowhere (code_units C.form c) (map C.number (contents_seen self.entry))) }
@@ -124,7 +124,7 @@ impl<'a, C: FaultUnit> UCStr<'a, C> {
     }
 
     /// Splits the contents at the first occurrence of the needle, without its NUL, into what is before it and what is
-    /// after it, as views without a NUL. Returns `None` if there is none.
+    /// after it, as views without a NUL. Returns `None` if there is none. An empty needle occurs at the start.
     pub fn split_once(self, needle: UCStr<'_, C>) -> Option<(UStr<'a, C>, UStr<'a, C>)>
         ensures first { IfSome result (λ r. IsFirstSplit (contents_seen needle.entry) (contents_seen self.entry) (units_seen r.0) (units_seen r.1)) }
         ensures none { IfNone result (OccursNowhere (contents_seen needle.entry) (contents_seen self.entry)) }
@@ -133,7 +133,7 @@ impl<'a, C: FaultUnit> UCStr<'a, C> {
     }
 
     /// Splits the contents at the last occurrence of the needle, without its NUL, into what is before it and what is
-    /// after it, as views without a NUL. Returns `None` if there is none.
+    /// after it, as views without a NUL. Returns `None` if there is none. An empty needle occurs at the end.
     pub fn rsplit_once(self, needle: UCStr<'_, C>) -> Option<(UStr<'a, C>, UStr<'a, C>)>
         ensures last { IfSome result (λ r. IsLastSplit (contents_seen needle.entry) (contents_seen self.entry) (units_seen r.0) (units_seen r.1)) }
         ensures none { IfNone result (OccursNowhere (contents_seen needle.entry) (contents_seen self.entry)) }
@@ -155,7 +155,7 @@ impl<'a, C: FaultUnit> UCStr<'a, C> {
         self.as_ustr().split(needle.as_ustr())
     }
 
-    /// Returns an iterator over the substrings of the contents between the occurrences of a unit, from the front, as
+    /// Returns an iterator over the substrings of the contents between the occurrences of a unit, from both ends, as
     /// views without a NUL. The unit may be half of a surrogate pair. If it occurs at the start, at the end, or twice in
     /// a row, the substring there is empty. If it does not occur, as a NUL never does, the contents are the only
     /// substring.
@@ -178,7 +178,7 @@ impl<'a, C: FaultUnit> UCStr<'a, C> {
         self.as_ustr().split_unit(unit)
     }
 
-    /// Returns an iterator over the substrings of the contents between the occurrences of a character, from the front,
+    /// Returns an iterator over the substrings of the contents between the occurrences of a character, from both ends,
     /// as views without a NUL. Half of a surrogate pair is no character and separates nothing. If the character occurs
     /// at the start, at the end, or twice in a row, the substring there is empty. If it does not occur, the contents are
     /// the only substring.
@@ -276,7 +276,7 @@ impl<'a, C: FaultUnit> UCStr<'a, C> {
     }
 
     /// Returns an iterator over the substrings of the contents that an occurrence of the character or their end ends,
-    /// from the front, as views without a NUL. They are those of [`UCStr::split_char`], without the last one if that is
+    /// from both ends, as views without a NUL. They are those of [`UCStr::split_char`], without the last one if that is
     /// empty.
     ///
     /// # Example

@@ -34,7 +34,7 @@ impl<'a, C: FaultUnit> UCStr<'a, C> {
         self.as_ustr().find_any(set)
     }
 
-    /// Returns an iterator over the substrings between the characters of the set, from the front. Half of a surrogate
+    /// Returns an iterator over the substrings between the characters of the set, from both ends. Half of a surrogate
     /// pair is no character and separates nothing. If a character of the set is at the start, at the end, or next to
     /// another one, the substring there is empty. If there is none, the contents are the only substring, without the
     /// NUL.
@@ -59,7 +59,7 @@ impl<'a, C: FaultUnit> UCStr<'a, C> {
     }
 
     /// Returns an iterator over the words of the contents: the substrings between White_Space characters (Unicode
-    /// Character Database) that are not empty, from the front. Half of a surrogate pair is no character, so it is part
+    /// Character Database) that are not empty, from both ends. Half of a surrogate pair is no character, so it is part
     /// of a word.
     ///
     /// # Example
@@ -80,7 +80,7 @@ impl<'a, C: FaultUnit> UCStr<'a, C> {
     }
 
     /// Returns an iterator over the words of the contents: the substrings between the white space of ASCII (space, tab,
-    /// line feed, form feed and carriage return) that are not empty, from the front.
+    /// line feed, form feed and carriage return) that are not empty, from both ends.
     ///
     /// # Example
     ///

@@ -129,7 +129,7 @@ impl<'a, C: FaultUnit> UCStr<'a, C> {
     }
 
     /// Returns an iterator over the substrings of the contents that end after an occurrence of the character or at their
-    /// end, from the front, as views without a NUL. They are those of [`UCStr::split_char`], each with the character
+    /// end, from both ends, as views without a NUL. They are those of [`UCStr::split_char`], each with the character
     /// after it, and without the last one if that is empty.
     ///
     /// # Example

@@ -187,7 +187,7 @@ impl<'a, C: FaultUnit> UCStr<'a, C> {
     }
 
     /// Returns a view of the contents in a range, whose ends are offsets in units. Returns `None` if the range starts
-    /// after its end, ends past the end of the contents, or has a bound past `usize::MAX`. [`wide_unit::range_check`]
+    /// after its end, ends past the end of the contents, or has a bound past `usize::MAX`. [`widestring::unit::range_check`]
     /// checks the range.
     pub fn get<R: RangeBounds<usize>>(self, range: R) -> Option<UStr<'a, C>>
         ensures some { R.has_bounds range → IsSome result ↔ IsInRange (contents_seen self.entry) (R.start_bound range) (R.end_bound range) }

@@ -5,3 +5,6 @@ pub mod Few
 pub mod Mirrored
 pub mod Inclusive
 pub mod Matched
+pub mod BothEnds
+pub mod InclusiveEnds
+pub mod MatchedEnds

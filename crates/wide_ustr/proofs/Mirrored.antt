@@ -23,7 +23,7 @@ unreversed parts lists is = sym (reversed-twice parts) ∙ ap (map reverse) is
 
 module _ {A : Type 0} where
   -- A needle between two lists occurs after the first one.
-  occurs-between : (needle whole prefix rest : List A) → whole ≡ prefix ++ (needle ++ rest) → OccursAt needle whole (length prefix)
+  pub occurs-between : (needle whole prefix rest : List A) → whole ≡ prefix ++ (needle ++ rest) → OccursAt needle whole (length prefix)
   occurs-between needle whole prefix rest joined = record {
     within = omega (arith, ap length joined, length-append prefix (needle ++ rest), length-append needle rest);
     same = ap (λ xs. take (length needle) (drop (length prefix) xs)) joined ∙ ap (take (length needle)) (drop-append_seam prefix (needle ++ rest)) ∙ take-append_seam needle rest;

@@ -1,5 +1,5 @@
 -- Matches of a needle, each with its offset.
-use Rattle.std.specs.Prelude.{◌≡◌, ℕ, ◌+◌, ◌<◌, List, [], ◌∷◌, length, drop}
+use Rattle.std.specs.Prelude.{◌≡◌, ℕ, ◌+◌, ◌<◌, ◌≤◌, List, [], ◌∷◌, ◌++◌, length, drop}
 use Rattle.wide_search.specs.Cut.{substrings}
 use Rattle.wide_search.specs.Occurrences.{IsFirstAt, IsFirstFrom, OccursNowhereFrom}
 
@@ -26,3 +26,10 @@ pub record IsFirstMatch (needle whole : List ℕ) (at : ℕ) (found rest : List 
   pub first : IsFirstAt needle whole at
   pub same : found ≡ needle
   pub after : rest ≡ drop (at + length needle) whole
+
+-- The needle occurs as `found` after `before`, and what follows it is the last substring.
+pub record IsLastMatch (needle whole before found : List ℕ) : Type 0 where
+  pub rest : List ℕ
+  pub same : found ≡ needle
+  pub cut : substrings needle whole ≡ substrings needle before ++ rest ∷ []
+  pub within : length before ≤ length whole

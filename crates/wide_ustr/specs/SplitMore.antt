@@ -1,5 +1,5 @@
 -- What the iterators over the substrings that are not empty, or without an empty last one, will yield.
-use Rattle.std.specs.Prelude.{ℕ, Bool, true, false, List, [], ◌∷◌}
+use Rattle.std.specs.Prelude.{ℕ, Bool, true, false, if◌then◌else◌, List, [], ◌∷◌}
 use Rattle.std.specs.List.{filter}
 use Rattle.wide_forms.specs.EncodingForm.{EncodingForm, code_units}
 use Rattle.wide_search.specs.Cut.{substrings}
@@ -30,9 +30,9 @@ module _ {A : Type 0} where
 abbrev pub filled_left : {V P : Type 0} → (V → List ℕ) → (P → List ℕ → List (List ℕ)) → SplitFilled V P → List (List ℕ)
 filled_left seen cut_at s = filled (substrings_left seen cut_at s.all)
 
--- The numbers of the units of each substring, without an empty last one.
+-- The numbers of the units of each substring, without an empty last one, unless one was taken from the back.
 abbrev pub terminated_left : {V P : Type 0} → (V → List ℕ) → (P → List ℕ → List (List ℕ)) → SplitTerminator V P → List (List ℕ)
-terminated_left seen cut_at s = terminated (substrings_left seen cut_at s.all)
+terminated_left seen cut_at s = if s.last_taken then substrings_left seen cut_at s.all else terminated (substrings_left seen cut_at s.all)
 
 module _ {C : Type 0} where
   -- The substrings of units that are split at units, without an empty last one.

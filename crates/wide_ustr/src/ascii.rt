@@ -25,9 +25,8 @@ impl<C: Unit> UStr<'_, C> {
         wide_ascii::is_ascii(self.as_slice())
     }
 
-    /// Returns whether two views have the same units, without regard to the case of ASCII letters, as the names of
-    /// registry keys are compared. A letter past ASCII differs from the one in the other case. It stops at the first
-    /// difference.
+    /// Returns whether two views have the same units, without regard to the case of ASCII letters. A letter past ASCII
+    /// differs from the one in the other case. It stops at the first difference.
     ///
     /// # Example
     ///

@@ -104,7 +104,7 @@ impl<C: Unit> UStr<'_, C> {
     /// Returns the offset, in units from the start of the view, of the first occurrence of the character that begins at
     /// the offset `from`, in units too, or after it. Returns `None` if there is none, or if `from` exceeds the length.
     /// Half of a surrogate pair is no character and is not found, so both the offset and the end of the character are
-    /// between two items (`wide_search::laws::needles_in_text`).
+    /// between two items (`widestring::search::laws::needles_in_text`).
     ///
     /// # Example
     ///

@@ -1,12 +1,12 @@
 //! The matches of a needle in a view, with their offsets.
 ghost use Rattle.std.specs.Prelude.{◌≡◌, ◌<◌, ◌≤◌, ◌+◌, ◌^◌, ◌∷◌, [], length, map, None, IfNone, IfSome, ⊤};
 ghost use Rattle.std.proofs.Props.{props};
-ghost use Rattle.std.specs.Iterator.{YieldsFirstBy, at_most, UpTo};
+ghost use Rattle.std.specs.Iterator.{YieldsFirstBy, YieldsLastBy, at_most, UpTo};
 ghost use Rattle.std.specs.Iterator.SizeHint.{IsWithinCount};
 ghost use Rattle.std.specs.List.{All};
 ghost use Rattle.wide_forms.specs.EncodingForm.{code_units};
 ghost use Rattle.wide_search.specs.Cut.{substrings};
-ghost use Rattle.wide_ustr.specs.Matched.{AreMatches, matches_in, IsFirstMatch};
+ghost use Rattle.wide_ustr.specs.Matched.{AreMatches, matches_in, IsFirstMatch, IsLastMatch};
 ghost use Rattle.wide_ustr.specs.View.{units_seen, numbers_seen};
 
 use crate::split::NeedleView;
@@ -40,17 +40,40 @@ pub trait MatchView<P>: NeedleView<P> {
         ensures { result ≡ length (Self.NeedleView.numbers_seen self) };
 }
 
+/// A view in which the matches of a needle are the same from either end: those of a character.
+///
+/// The Rust crate has no such trait. No call allocates.
+///
+/// # Example
+///
+/// ```
+/// use widestring::ustr::MatchBackView;
+///
+/// let list = U16Str::from_slice(&[0x61, 0x3b, 0x62, 0x3b]);
+/// let found = list.last_match(';');
+/// assert!(rt; found.is_some_and(|(before, found)| before.len() == 3 && found.len() == 1));
+/// ```
+pub trait MatchBackView<P>: MatchView<P> {
+    /// Finds the last occurrence of the needle. Returns what is before it, and the occurrence as a view. Returns `None`
+    /// if the needle does not occur.
+    fn last_match(self, needle: P) -> Option<(Self, Self)>
+        ensures none { IfNone result (substrings (Self.MatchView.needle_numbers needle) (Self.MatchView.numbers_seen self) ≡ Self.MatchView.numbers_seen self ∷ []) }
+        ensures some { IfSome result (λ r. IsLastMatch (Self.MatchView.needle_numbers needle) (Self.MatchView.numbers_seen self) (Self.MatchView.numbers_seen r.0) (Self.MatchView.numbers_seen r.1)) };
+}
+
 /// An iterator over the matches of a needle in a view, from the front, each with its offset in units. Made by
 /// [`UStr::match_indices`](crate::UStr::match_indices) and
 /// [`UStr::match_indices_char`](crate::UStr::match_indices_char), and by the calls of the other views that have these
-/// names.
+/// names. The matches of a character it also finds from the back.
 ///
 /// # Example
 ///
 /// ```
 /// let list = U16Str::from_slice(&[0x61, 0x3b, 0x62, 0x3b]);
-/// let last = list.match_indices(U16Str::from_slice(&[0x3b])).last();
-/// assert!(rt; last.is_some_and(|(offset, _)| offset == 3));
+/// let mut found = list.match_indices_char(';');
+/// assert!(rt; found.next_back().is_some_and(|(offset, _)| offset == 3));
+/// assert!(rt; found.next_back().is_some_and(|(offset, _)| offset == 1));
+/// assert!(rt; found.next_back().is_none());
 /// ```
 #[derive(Debug)]
 pub struct MatchIndices<V: MatchView<P>, P> {
@@ -121,11 +144,30 @@ impl<P: Copy, V: MatchView<P>> Iterator for MatchIndices<V, P> {
     }
 }
 
+impl<P: Copy, V: MatchBackView<P>> DoubleEndedIterator for MatchIndices<V, P> {
+    ghost use Rattle.wide_ustr.specs.MatchesLeft.{placed_match, matches_left};
+
+    ghost next_back_gives = { YieldsLastBy (placed_match V.numbers_seen) matches_left };
+
+    /// Returns the last match that is left, and its offset in units. It reads the units from the back, down to the match,
+    /// and may read some before it.
+    fn next_back(&mut self) -> Option<(usize, V)> {
+        let view = self.rest?;
+        let Some(found) = view.last_match(self.needle) else {
+            self.rest = None;
+            return None;
+        };
+        self.len = self.len - view.units_len() + found.0.units_len();
+        self.rest = Some(found.0);
+        Some((self.len, found.1))
+    }
+}
+
 impl<P: Copy, V: MatchView<P>> FusedIterator for MatchIndices<V, P> {}
 
 /// An iterator over the matches of a needle in a view, from the front. Made by
 /// [`UStr::matches`](crate::UStr::matches) and [`UStr::matches_char`](crate::UStr::matches_char), and by the calls of
-/// the other views that have these names.
+/// the other views that have these names. The matches of a character it also finds from the back.
 ///
 /// # Example
 ///
@@ -190,6 +232,19 @@ impl<P: Copy, V: MatchView<P>> Iterator for Matches<V, P> {
     }
 }
 
+impl<P: Copy, V: MatchBackView<P>> DoubleEndedIterator for Matches<V, P> {
+    ghost use Rattle.wide_ustr.specs.MatchesLeft.{found_left};
+
+    ghost next_back_gives = { YieldsLastBy V.numbers_seen found_left };
+
+    /// Returns the last match that is left. It reads the units from the back, down to the match, and may read some before
+    /// it.
+    fn next_back(&mut self) -> Option<V> {
+        let found = self.indices.next_back()?;
+        Some(found.1)
+    }
+}
+
 impl<P: Copy, V: MatchView<P>> FusedIterator for Matches<V, P> {}
 
 impl<'a, C: Unit> MatchView<UStr<'a, C>> for UStr<'_, C> {
@@ -225,6 +280,17 @@ impl<C: Unit> MatchView<char> for UStr<'_, C> {
     }
 }
 
+impl<C: Unit> MatchBackView<char> for UStr<'_, C> {
+    fn last_match(self, c: char) -> Option<(Self, Self)> {
+        let Some(at) = self.rfind_char(c) else {
+            return None;
+        };
+        let (before, from) = self.split_at(at);
+        let (found, _) = from.split_at(C::char_len(c));
+        Some((before, found))
+    }
+}
+
 impl<C: Unit> UStr<'_, C> {
     ghost use Rattle.wide_ustr.specs.MatchesLeft.{matches_left, found_left};
 
@@ -253,7 +319,7 @@ impl<C: Unit> UStr<'_, C> {
         MatchIndices::new(self, needle)
     }
 
-    /// Returns an iterator over the matches of a character, from the front, each with its offset in units. Half of a
+    /// Returns an iterator over the matches of a character, from both ends, each with its offset in units. Half of a
     /// surrogate pair is no character and matches none.
     ///
     /// # Example
@@ -297,7 +363,7 @@ impl<C: Unit> UStr<'_, C> {
         Matches::new(self, needle)
     }
 
-    /// Returns an iterator over the matches of a character, from the front, as parts of the view. Half of a surrogate
+    /// Returns an iterator over the matches of a character, from both ends, as parts of the view. Half of a surrogate
     /// pair is no character and matches none.
     ///
     /// # Example

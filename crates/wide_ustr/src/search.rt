@@ -86,7 +86,7 @@ impl<C: Unit> UStr<'_, C> {
 
     /// Returns the offset, in units, of the first occurrence of the character, or `None` if there is none. Half of a
     /// surrogate pair is no character and is not found, so both the offset and the end of the character are between two
-    /// items (`wide_search::laws::needles_in_text`).
+    /// items (`widestring::search::laws::needles_in_text`).
     pub fn find_char(self, c: char) -> Option<usize>
         ensures first { IfSome result (IsFirstAt (code_units C.form c) (map C.number (units_seen self.entry))) }
         ensures none { IfNone result (OccursNowhere (code_units C.form c) (map C.number (units_seen self.entry))) }
@@ -97,7 +97,7 @@ impl<C: Unit> UStr<'_, C> {
 
     /// Returns the offset, in units, of the last occurrence of the character, or `None` if there is none. Half of a
     /// surrogate pair is no character and is not found, so both the offset and the end of the character are between two
-    /// items (`wide_search::laws::needles_in_text`).
+    /// items (`widestring::search::laws::needles_in_text`).
     pub fn rfind_char(self, c: char) -> Option<usize>
         ensures last { IfSome result (IsLastAt (code_units C.form c) (map C.number (units_seen self.entry))) }
         ensures none { IfNone result (OccursNowhere (code_units C.form c) (map C.number (units_seen self.entry))) }
@@ -143,7 +143,7 @@ impl<C: Unit> UStr<'_, C> {
     }
 
     /// Splits the view at the first occurrence of the needle, into what is before it and what is after it. Returns
-    /// `None` if there is none.
+    /// `None` if there is none. An empty needle occurs at the start.
     pub fn split_once(self, needle: UStr<'_, C>) -> Option<(Self, Self)>
         ensures first { IfSome result (λ r. IsFirstSplit (units_seen needle.entry) (units_seen self.entry) (units_seen r.0) (units_seen r.1)) }
         ensures none { IfNone result (OccursNowhere (units_seen needle.entry) (units_seen self.entry)) }
@@ -153,7 +153,7 @@ impl<C: Unit> UStr<'_, C> {
     }
 
     /// Splits the view at the last occurrence of the needle, into what is before it and what is after it. Returns
-    /// `None` if there is none.
+    /// `None` if there is none. An empty needle occurs at the end.
     pub fn rsplit_once(self, needle: UStr<'_, C>) -> Option<(Self, Self)>
         ensures last { IfSome result (λ r. IsLastSplit (units_seen needle.entry) (units_seen self.entry) (units_seen r.0) (units_seen r.1)) }
         ensures none { IfNone result (OccursNowhere (units_seen needle.entry) (units_seen self.entry)) }

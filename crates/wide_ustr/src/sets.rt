@@ -81,7 +81,7 @@ impl<C: Unit> UStr<'_, C> {
         Some(start)
     }
 
-    /// Returns an iterator over the substrings between the characters of the set, from the front. Half of a surrogate
+    /// Returns an iterator over the substrings between the characters of the set, from both ends. Half of a surrogate
     /// pair is no character and separates nothing. If a character of the set is at the start, at the end, or next to
     /// another one, the substring there is empty. If the view has none, the whole view is the only substring.
     ///
@@ -107,7 +107,7 @@ impl<C: Unit> UStr<'_, C> {
     }
 
     /// Returns an iterator over the words of the view: the substrings between White_Space characters (Unicode Character
-    /// Database) that are not empty, from the front. Half of a surrogate pair is no character, so it is part of a word.
+    /// Database) that are not empty, from both ends. Half of a surrogate pair is no character, so it is part of a word.
     ///
     /// # Example
     ///
@@ -129,7 +129,7 @@ impl<C: Unit> UStr<'_, C> {
     }
 
     /// Returns an iterator over the words of the view: the substrings between the white space of ASCII (space, tab, line
-    /// feed, form feed and carriage return) that are not empty, from the front.
+    /// feed, form feed and carriage return) that are not empty, from both ends.
     ///
     /// # Example
     ///

@@ -1,7 +1,7 @@
 //! The substrings of a view that is split at a separator.
 ghost use Rattle.std.specs.Prelude.{◌≡◌, ◌↔◌, ◌<◌, ◌≤◌, ◌+◌, ◌^◌, ◌∷◌, ℕ, List, [], length, None, IsTrue, IfNone, IfSome};
 ghost use Rattle.std.proofs.Common.{refl};
-ghost use Rattle.std.specs.Iterator.{YieldsFirstBy, at_most, UpTo};
+ghost use Rattle.std.specs.Iterator.{YieldsFirstBy, YieldsLastBy, at_most, UpTo};
 ghost use Rattle.std.specs.Iterator.SizeHint.{IsWithinCount};
 ghost use Rattle.wide_forms.specs.EncodingForm.{code_units};
 ghost use Rattle.wide_search.specs.Cut.{substrings};
@@ -10,6 +10,7 @@ ghost use Rattle.wide_search.specs.Substrings.{AreSubstrings};
 ghost use Rattle.wide_ustr.specs.Split.{substrings_left, unit_substrings_left, one_number, one_substrings_left, char_substrings_left};
 ghost use Rattle.wide_ustr.specs.View.{numbers_seen};
 
+use crate::split_ends::DoubleEndedView;
 use crate::view::UStr;
 use std::iter::FusedIterator;
 use wide_from_units::byte_len;
@@ -91,14 +92,17 @@ pub struct OneUnit<C> {
 
 /// An iterator over the substrings of a view between the occurrences of a separator, from the front. Made by
 /// [`UStr::split`](crate::UStr::split), [`UStr::split_unit`](crate::UStr::split_unit) and
-/// [`UStr::split_char`](crate::UStr::split_char), and by the calls of the other views that have these names.
+/// [`UStr::split_char`](crate::UStr::split_char), and by the calls of the other views that have these names. At a unit, a
+/// character or the characters of a set it also goes from the back ([`DoubleEndedView`]).
 ///
 /// # Example
 ///
 /// ```
 /// let path = U16Str::from_slice(&[0x43, 0x3a, 0x5c, 0x74, 0x5c, 0xe9]);
-/// let parts = path.split(U16Str::from_slice(&[0x5c]));
-/// assert!(rt; parts.count() == 3);
+/// let mut parts = path.split_char('\\');
+/// assert!(rt; parts.next_back() == Some(U16Str::from_slice(&[0xe9])));
+/// assert!(rt; parts.next() == Some(U16Str::from_slice(&[0x43, 0x3a])));
+/// assert!(rt; parts.count() == 1);
 /// ```
 #[derive(Clone, Copy, Debug, Drop)]
 pub struct Split<V, P> {
@@ -153,6 +157,22 @@ impl<P: Copy, V: SplitView<P>> Iterator for Split<V, P> {
         ensures most { result.1 ≡ None }
     {
         (0, None)
+    }
+}
+
+impl<P: Copy, V: DoubleEndedView<P>> DoubleEndedIterator for Split<V, P> {
+    ghost next_back_gives = { YieldsLastBy V.numbers_seen (substrings_left V.numbers_seen V.cut_at) };
+
+    /// Returns the last substring that is left. It reads the units from the back, down to those of the separator that
+    /// begins the substring, and may read some before them.
+    fn next_back(&mut self) -> Option<V> {
+        let view = self.rest?;
+        let Some((rest, substring)) = view.cut_off_last(self.needle) else {
+            self.rest = None;
+            return Some(view);
+        };
+        self.rest = Some(rest);
+        Some(substring)
     }
 }
 
@@ -266,7 +286,7 @@ impl<C: Unit> UStr<'_, C> {
         Split::new(self, needle)
     }
 
-    /// Returns an iterator over the substrings between the occurrences of a unit, from the front. The unit may be half of
+    /// Returns an iterator over the substrings between the occurrences of a unit, from both ends. The unit may be half of
     /// a surrogate pair. If it occurs at the start, at the end, or twice in a row, the substring there is empty. If it
     /// does not occur, the whole view is the only substring.
     ///
@@ -291,7 +311,7 @@ impl<C: Unit> UStr<'_, C> {
         Split::new(self, OneUnit { unit })
     }
 
-    /// Returns an iterator over the substrings between the occurrences of a character, from the front. Half of a
+    /// Returns an iterator over the substrings between the occurrences of a character, from both ends. Half of a
     /// surrogate pair is no character and separates nothing. If the character occurs at the start, at the end, or twice
     /// in a row, the substring there is empty. If it does not occur, the whole view is the only substring.
     ///

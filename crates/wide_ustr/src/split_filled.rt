@@ -1,14 +1,15 @@
 //! The substrings of a view that are not empty, between the occurrences of a separator.
 ghost use Rattle.std.specs.Prelude.{◌≡◌, length, None, IfSome};
-ghost use Rattle.std.specs.Iterator.{YieldsFirstBy, at_most, UpTo};
+ghost use Rattle.std.specs.Iterator.{YieldsFirstBy, YieldsLastBy, at_most, UpTo};
 ghost use Rattle.std.specs.Iterator.SizeHint.{IsWithinCount};
 ghost use Rattle.wide_ustr.specs.SplitMore.{filled, filled_left};
 
 use crate::split::{Split, SplitView};
+use crate::split_ends::DoubleEndedView;
 use std::iter::FusedIterator;
 
-/// An iterator over the substrings of a view that are not empty, between the occurrences of a separator, from the
-/// front. Made by [`UStr::split_whitespace`](crate::UStr::split_whitespace) and
+/// An iterator over the substrings of a view that are not empty, between the occurrences of a separator, from both ends.
+/// Made by [`UStr::split_whitespace`](crate::UStr::split_whitespace) and
 /// [`UStr::split_ascii_whitespace`](crate::UStr::split_ascii_whitespace), and by the calls of the other views that have
 /// these names.
 ///
@@ -16,7 +17,9 @@ use std::iter::FusedIterator;
 ///
 /// ```
 /// let line = U16Str::from_slice(&[0x20, 0x61, 0x9, 0x20, 0x62]);
-/// assert!(rt; line.split_whitespace().count() == 2);
+/// let mut words = line.split_whitespace();
+/// assert!(rt; words.next_back() == Some(U16Str::from_slice(&[0x62])));
+/// assert!(rt; words.count() == 1);
 /// ```
 #[derive(Clone, Copy, Debug, Drop)]
 pub struct SplitFilled<V, P> {
@@ -59,6 +62,20 @@ impl<P: Copy, V: SplitView<P>> Iterator for SplitFilled<V, P> {
         ensures most { result.1 ≡ None }
     {
         (0, None)
+    }
+}
+
+impl<P: Copy, V: DoubleEndedView<P>> DoubleEndedIterator for SplitFilled<V, P> {
+    ghost next_back_gives = { YieldsLastBy V.numbers_seen (filled_left V.numbers_seen V.cut_at) };
+
+    /// Returns the last substring that is left and not empty.
+    fn next_back(&mut self) -> Option<V> {
+        while let Some(substring) = self.all.next_back() {
+            if !substring.has_no_units() {
+                return Some(substring);
+            }
+        }
+        None
     }
 }
 

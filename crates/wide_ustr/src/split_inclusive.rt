@@ -1,6 +1,6 @@
 //! The substrings of a view that keep the separators after them.
-ghost use Rattle.std.specs.Prelude.{◌≡◌, ◌<◌, ◌≤◌, ◌+◌, ◌^◌, ◌∷◌, [], length, None, IfNone, IfSome};
-ghost use Rattle.std.specs.Iterator.{YieldsFirstBy, at_most, UpTo};
+ghost use Rattle.std.specs.Prelude.{◌≡◌, ◌<◌, ◌≤◌, ◌+◌, ◌^◌, ◌∷◌, ◌++◌, [], length, None, IfNone, IfSome};
+ghost use Rattle.std.specs.Iterator.{YieldsFirstBy, YieldsLastBy, at_most, UpTo};
 ghost use Rattle.std.specs.Iterator.SizeHint.{IsWithinCount};
 ghost use Rattle.wide_forms.specs.EncodingForm.{code_units};
 ghost use Rattle.wide_search.specs.Cut.{substrings};
@@ -34,17 +34,39 @@ pub trait InclusiveView<P>: NeedleView<P> {
         ensures some { IfSome result (λ r. IsCutAfter (Self.NeedleView.needle_numbers needle) (Self.NeedleView.numbers_seen self) (Self.NeedleView.numbers_seen r.0) (Self.NeedleView.numbers_seen r.1)) };
 }
 
+/// A view that is split after a separator into the same substrings from either end: after a character.
+///
+/// The Rust crate has no such trait. No call allocates.
+///
+/// # Example
+///
+/// ```
+/// use widestring::ustr::InclusiveBackView;
+///
+/// let list = U16Str::from_slice(&[0x61, 0x3b, 0x62, 0x3b]);
+/// let parts = list.cut_off_inclusive(';');
+/// assert!(rt; parts.is_some_and(|(rest, last)| rest.len() == 2 && last.len() == 2));
+/// ```
+pub trait InclusiveBackView<P>: InclusiveView<P> {
+    /// Cuts off the last substring, which ends with the separator if the view does. Returns what is before it, which
+    /// ends with a separator, and the substring. Returns `None` if no separator is before it.
+    fn cut_off_inclusive(self, needle: P) -> Option<(Self, Self)>
+        ensures none { IfNone result (inclusive (Self.InclusiveView.needle_numbers needle) (substrings (Self.InclusiveView.needle_numbers needle) (Self.InclusiveView.numbers_seen self)) ≡ inclusive (Self.InclusiveView.needle_numbers needle) (Self.InclusiveView.numbers_seen self ∷ [])) }
+        ensures some { IfSome result (λ r. inclusive (Self.InclusiveView.needle_numbers needle) (substrings (Self.InclusiveView.needle_numbers needle) (Self.InclusiveView.numbers_seen self)) ≡ inclusive (Self.InclusiveView.needle_numbers needle) (substrings (Self.InclusiveView.needle_numbers needle) (Self.InclusiveView.numbers_seen r.0)) ++ Self.InclusiveView.numbers_seen r.1 ∷ []) };
+}
+
 /// An iterator over the substrings of a view that end after an occurrence of a separator or at the end, from the front.
 /// Made by [`UStr::split_inclusive`](crate::UStr::split_inclusive) and
 /// [`UStr::split_inclusive_char`](crate::UStr::split_inclusive_char), and by the calls of the other views that have
-/// these names.
+/// these names. At a character it also goes from the back.
 ///
 /// # Example
 ///
 /// ```
 /// let list = U16Str::from_slice(&[0x61, 0x3b, 0x62, 0x3b]);
-/// let parts = list.split_inclusive(U16Str::from_slice(&[0x3b]));
-/// assert!(rt; parts.count() == 2);
+/// let mut parts = list.split_inclusive_char(';');
+/// assert!(rt; parts.next_back() == Some(U16Str::from_slice(&[0x62, 0x3b])));
+/// assert!(rt; parts.count() == 1);
 /// ```
 #[derive(Clone, Copy, Debug, Drop)]
 pub struct SplitInclusive<V, P> {
@@ -97,6 +119,25 @@ impl<P: Copy, V: InclusiveView<P>> Iterator for SplitInclusive<V, P> {
     }
 }
 
+impl<P: Copy, V: InclusiveBackView<P>> DoubleEndedIterator for SplitInclusive<V, P> {
+    ghost next_back_gives = { YieldsLastBy V.numbers_seen (inclusive_left V.numbers_seen V.needle_numbers) };
+
+    /// Returns the last substring that is left. It reads the units from the back, down to those of the separator before
+    /// the substring, and may read some before them.
+    fn next_back(&mut self) -> Option<V> {
+        let view = self.rest?;
+        let Some((rest, last)) = view.cut_off_inclusive(self.needle) else {
+            self.rest = None;
+            if view.has_no_units() {
+                return None;
+            }
+            return Some(view);
+        };
+        self.rest = Some(rest);
+        Some(last)
+    }
+}
+
 impl<P: Copy, V: InclusiveView<P>> FusedIterator for SplitInclusive<V, P> {}
 
 impl<'a, C: Unit> InclusiveView<UStr<'a, C>> for UStr<'_, C> {
@@ -114,6 +155,17 @@ impl<'a, C: Unit> InclusiveView<UStr<'a, C>> for UStr<'_, C> {
 impl<C: Unit> InclusiveView<char> for UStr<'_, C> {
     fn cut_after(self, c: char) -> Option<(Self, Self)> {
         let Some(at) = self.find_char(c) else {
+            return None;
+        };
+        Some(self.split_at(at + C::char_len(c)))
+    }
+}
+
+impl<C: Unit> InclusiveBackView<char> for UStr<'_, C> {
+    fn cut_off_inclusive(self, c: char) -> Option<(Self, Self)> {
+        // A separator at the end of the view has nothing after it.
+        let (body, _) = self.split_at(self.len().saturating_sub(1));
+        let Some(at) = body.rfind_char(c) else {
             return None;
         };
         Some(self.split_at(at + C::char_len(c)))
@@ -147,7 +199,7 @@ impl<C: Unit> UStr<'_, C> {
     }
 
     /// Returns an iterator over the substrings that end after an occurrence of the character or at the end of the view,
-    /// from the front. They are those of [`UStr::split_char`], each with the character after it, and without the last
+    /// from both ends. They are those of [`UStr::split_char`], each with the character after it, and without the last
     /// one if that is empty.
     ///
     /// # Example

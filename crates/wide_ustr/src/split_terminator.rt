@@ -1,6 +1,6 @@
 //! The substrings of a view that a separator ends.
 ghost use Rattle.std.specs.Prelude.{◌≡◌, ◌<◌, ◌≤◌, ◌+◌, ◌^◌, length, None, IfSome};
-ghost use Rattle.std.specs.Iterator.{YieldsFirstBy, at_most, UpTo};
+ghost use Rattle.std.specs.Iterator.{YieldsFirstBy, YieldsLastBy, at_most, UpTo};
 ghost use Rattle.std.specs.Iterator.SizeHint.{IsWithinCount};
 ghost use Rattle.wide_forms.specs.EncodingForm.{code_units};
 ghost use Rattle.wide_search.specs.Cut.{substrings};
@@ -8,6 +8,7 @@ ghost use Rattle.wide_ustr.specs.SplitMore.{terminated, terminated_left, unit_te
 ghost use Rattle.wide_ustr.specs.View.{units_seen, numbers_seen};
 
 use crate::split::{Split, SplitView};
+use crate::split_ends::DoubleEndedView;
 use crate::view::UStr;
 use std::iter::FusedIterator;
 use wide_from_units::byte_len;
@@ -15,18 +16,22 @@ use wide_unit::Unit;
 
 /// An iterator over the substrings of a view that end at an occurrence of a separator or at the end, from the front. If
 /// the view ends with a separator, no empty substring follows it. Made by
-/// [`UStr::split_terminator`](crate::UStr::split_terminator) and by the calls of the other views that have this name.
+/// [`UStr::split_terminator`](crate::UStr::split_terminator) and by the calls of the other views that have this name. At
+/// a character it also goes from the back.
 ///
 /// # Example
 ///
 /// ```
 /// let list = U16Str::from_slice(&[0x61, 0x3b, 0x62, 0x3b]);
-/// let parts = list.split_terminator(U16Str::from_slice(&[0x3b]));
-/// assert!(rt; parts.count() == 2);
+/// let mut parts = list.split_terminator_char(';');
+/// assert!(rt; parts.next_back() == Some(U16Str::from_slice(&[0x62])));
+/// assert!(rt; parts.count() == 1);
 /// ```
 #[derive(Clone, Copy, Debug, Drop)]
 pub struct SplitTerminator<V, P> {
     all: Split<V, P>,
+    // Whether a substring was taken from the back, before which an empty one counts.
+    last_taken: bool,
 }
 
 impl<P: Copy, V: SplitView<P>> SplitTerminator<V, P> {
@@ -36,6 +41,7 @@ impl<P: Copy, V: SplitView<P>> SplitTerminator<V, P> {
     {
         SplitTerminator {
             all: Split::new(view, separator),
+            last_taken: false,
         }
     }
 }
@@ -50,7 +56,7 @@ impl<P: Copy, V: SplitView<P>> Iterator for SplitTerminator<V, P> {
     /// Returns the next substring.
     fn next(&mut self) -> Option<V> {
         let substring = self.all.next()?;
-        if substring.has_no_units() && self.all.is_at_end() {
+        if substring.has_no_units() && self.all.is_at_end() && !self.last_taken {
             return None;
         }
         Some(substring)
@@ -64,6 +70,21 @@ impl<P: Copy, V: SplitView<P>> Iterator for SplitTerminator<V, P> {
         ensures most { result.1 ≡ None }
     {
         (0, None)
+    }
+}
+
+impl<P: Copy, V: DoubleEndedView<P>> DoubleEndedIterator for SplitTerminator<V, P> {
+    ghost next_back_gives = { YieldsLastBy V.numbers_seen (terminated_left V.numbers_seen V.cut_at) };
+
+    /// Returns the last substring that is left.
+    fn next_back(&mut self) -> Option<V> {
+        let was_taken = self.last_taken;
+        self.last_taken = true;
+        let last = self.all.next_back()?;
+        if was_taken | !last.has_no_units() {
+            return Some(last);
+        }
+        self.all.next_back()
     }
 }
 
@@ -92,8 +113,8 @@ impl<C: Unit> UStr<'_, C> {
         SplitTerminator::new(self, needle)
     }
 
-    /// Returns an iterator over the substrings that an occurrence of the character or the end of the view ends, from the
-    /// front. They are those of [`UStr::split_char`], without the last one if that is empty.
+    /// Returns an iterator over the substrings that an occurrence of the character or the end of the view ends, from both
+    /// ends. They are those of [`UStr::split_char`], without the last one if that is empty.
     ///
     /// # Example
     ///

@@ -31,7 +31,8 @@ use wide_utferror::FaultUnit;
 /// An owned string of units of 16 or 32 bits, of any values: its text may be well formed or not.
 ///
 /// Offsets and lengths are counted in units. A call that returns [`OutOfMemory`] leaves the string unchanged, except
-/// the `extend_*` calls: after these it has the items before the one whose allocation failed. If an allocation fails,
+/// those that extend it by an iterator: after these it has the items before the one whose allocation failed. If an
+/// allocation fails,
 /// `from_iter_*` return the string of the items before the failure, and `into_boxed_ustr` returns the string.
 ///
 /// `{:?}` prints the text between quotes, as [`char::escape_debug`] escapes it. A unit that belongs to no character is

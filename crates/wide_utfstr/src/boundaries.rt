@@ -10,6 +10,14 @@ impl<C: Unit> UtfStr<'_, C> {
     /// Returns the last character boundary at or before an offset in units. That is the offset itself, or the one
     /// before it if it is within a surrogate pair (Unicode Standard, D75), or the end if it is past the end. It reads
     /// at most one unit.
+    ///
+    /// # Example
+    ///
+    /// ```
+    /// let text = Utf16Str::from_slice(&[0x61, 0xd83d, 0xde00])?;
+    /// assert!(rt; text.floor_char_boundary(2) == 1);
+    /// assert!(rt; text.floor_char_boundary(9) == 3);
+    /// ```
     pub fn floor_char_boundary(self, offset: usize) -> usize
         ensures { IsFloorBoundary C.form (map C.number (units_seen self.entry)) offset result }
     {
@@ -25,6 +33,13 @@ impl<C: Unit> UtfStr<'_, C> {
     /// Returns the first character boundary at or after an offset in units. That is the offset itself, or the one after
     /// it if it is within a surrogate pair (Unicode Standard, D75), or the end if it is past the end. It reads at most
     /// one unit.
+    ///
+    /// # Example
+    ///
+    /// ```
+    /// let text = Utf16Str::from_slice(&[0x61, 0xd83d, 0xde00])?;
+    /// assert!(rt; text.ceil_char_boundary(2) == 3);
+    /// ```
     pub fn ceil_char_boundary(self, offset: usize) -> usize
         ensures { IsCeilBoundary C.form (map C.number (units_seen self.entry)) offset result }
     {

@@ -15,6 +15,7 @@ mod order;
 mod search;
 mod sets;
 mod split;
+mod split_ends;
 mod split_more;
 mod text;
 mod trim;

@@ -74,7 +74,7 @@ impl<C: Unit> UtfStr<'_, C> {
         MatchIndices::new(self, needle)
     }
 
-    /// Returns an iterator over the matches of a character, from the front, each with its offset in units. The offset
+    /// Returns an iterator over the matches of a character, from both ends, each with its offset in units. The offset
     /// and the end of each match are character boundaries.
     ///
     /// # Example
@@ -120,7 +120,7 @@ impl<C: Unit> UtfStr<'_, C> {
         Matches::new(self, needle)
     }
 
-    /// Returns an iterator over the matches of a character, from the front, as parts of the text.
+    /// Returns an iterator over the matches of a character, from both ends, as parts of the text.
     ///
     /// # Example
     ///

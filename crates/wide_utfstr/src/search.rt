@@ -181,7 +181,7 @@ impl<C: Unit> UtfStr<'_, C> {
     }
 
     /// Splits the view at the first occurrence of the needle, into the text before it and the text after it. Returns
-    /// `None` if there is none.
+    /// `None` if there is none. An empty needle occurs at the start.
     ///
     /// # Example
     ///
@@ -203,7 +203,7 @@ impl<C: Unit> UtfStr<'_, C> {
     }
 
     /// Splits the view at the last occurrence of the needle, into the text before it and the text after it. Returns
-    /// `None` if there is none.
+    /// `None` if there is none. An empty needle occurs at the end.
     ///
     /// # Example
     ///

@@ -64,7 +64,7 @@ impl<C: Unit> UtfStr<'_, C> {
         Some(start)
     }
 
-    /// Returns an iterator over the substrings between the characters of the set, each well formed, from the front. If a
+    /// Returns an iterator over the substrings between the characters of the set, each well formed, from both ends. If a
     /// character of the set is at the start, at the end, or next to another one, the substring there is empty. If the
     /// text has none, the whole text is the only substring.
     ///
@@ -91,7 +91,7 @@ impl<C: Unit> UtfStr<'_, C> {
     }
 
     /// Returns an iterator over the words of the text: the substrings between White_Space characters (Unicode Character
-    /// Database) that are not empty, from the front.
+    /// Database) that are not empty, from both ends.
     ///
     /// # Example
     ///
@@ -113,7 +113,7 @@ impl<C: Unit> UtfStr<'_, C> {
     }
 
     /// Returns an iterator over the words of the text: the substrings between the white space of ASCII (space, tab, line
-    /// feed, form feed and carriage return) that are not empty, from the front.
+    /// feed, form feed and carriage return) that are not empty, from both ends.
     ///
     /// # Example
     ///

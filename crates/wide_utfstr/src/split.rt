@@ -42,8 +42,8 @@ impl<C: Unit> UtfStr<'_, C> {
         Split::new(self, needle)
     }
 
-    /// Returns an iterator over the substrings between the occurrences of a character, each well formed, from the
-    /// front. If the character occurs at the start, at the end, or twice in a row, the substring there is empty. If it
+    /// Returns an iterator over the substrings between the occurrences of a character, each well formed, from both
+    /// ends. If the character occurs at the start, at the end, or twice in a row, the substring there is empty. If it
     /// does not occur, the whole text is the only substring.
     ///
     /// # Example
@@ -135,7 +135,7 @@ impl<C: Unit> UtfStr<'_, C> {
     }
 
     /// Returns an iterator over the substrings that an occurrence of the character or the end of the text ends, each
-    /// well formed, from the front. They are those of [`UtfStr::split_char`], without the last one if that is empty.
+    /// well formed, from both ends. They are those of [`UtfStr::split_char`], without the last one if that is empty.
     ///
     /// # Example
     ///

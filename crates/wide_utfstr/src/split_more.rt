@@ -170,7 +170,7 @@ impl<C: Unit> UtfStr<'_, C> {
     }
 
     /// Returns an iterator over the substrings that end after an occurrence of the character or at the end of the text,
-    /// each well formed, from the front. They are those of [`UtfStr::split_char`], each with the character after it, and
+    /// each well formed, from both ends. They are those of [`UtfStr::split_char`], each with the character after it, and
     /// without the last one if that is empty.
     ///
     /// # Example

@@ -529,6 +529,13 @@ impl<'a> UtfStr<'a, u32> {
     /// # Requires
     ///
     /// The index is less than the length.
+    ///
+    /// # Example
+    ///
+    /// ```
+    /// let text = Utf32Str::from_slice(&[0x61, 0x1f600])?;
+    /// assert!(rt; text.len() == 2 && text.char_at(1) == '😀');
+    /// ```
     pub fn char_at(self, index: usize) -> char
         requires { index < length (units_seen self) }
         ensures unit { slice_get (units_seen self.entry) index ≡ Some result }

@@ -34,7 +34,7 @@ use wide_utfstr::{UtfStr, check};
 /// ill-formed units in the string.
 ///
 /// Offsets and lengths are counted in units. A call that returns [`OutOfMemory`] leaves the string unchanged, except
-/// the `extend_*` calls: after these it has the items before the one whose allocation failed.
+/// those that extend it by an iterator: after these it has the items before the one whose allocation failed.
 ///
 /// `{}` prints the characters. `{:?}` prints them between quotes, as [`char::escape_debug`] escapes them.
 ///

@@ -184,7 +184,7 @@ pub fn are_in_order(units: &[u16], other: &[u16]) -> bool {
     cmp_code_points(units, other) != Ordering::Greater
 }
 
-/// Compares names of registry keys, which differ in the case of their letters.
+/// Compares two names that differ in the case of their letters.
 pub fn names_of_one_key() -> bool
     ensures { result ≡ true }
 {

@@ -116,9 +116,10 @@ pub mod ustr {
         AnyOf, BackView, CharIndices, CharIndicesLossy, CharIndicesLossyUtf16,
         CharIndicesLossyUtf32, CharIndicesUtf16, CharIndicesUtf32, Chars, CharsLossy,
         CharsLossyUtf16, CharsLossyUtf32, CharsLossyWith, CharsUtf16, CharsUtf32, Display,
-        DisplaySkipping, InclusiveView, LineIndices, LineView, Lines, MatchIndices, MatchView,
-        Matches, NeedleView, OneUnit, RSplit, RSplitN, Split, SplitFilled, SplitInclusive, SplitN,
-        SplitTerminator, SplitView, U16Str, U32Str, UStr, WideChar, WideStr, after_faults,
+        DisplaySkipping, DoubleEndedView, InclusiveBackView, InclusiveView, LineIndices, LineView,
+        Lines, MatchBackView, MatchIndices, MatchView, Matches, NeedleView, OneUnit, RSplit,
+        RSplitN, Split, SplitFilled, SplitInclusive, SplitN, SplitTerminator, SplitView, U16Str,
+        U32Str, UStr, WideChar, WideStr, after_faults,
     };
 }
 

@@ -8,6 +8,7 @@ mod compare;
 mod conversions;
 mod devices;
 mod encode;
+mod ends;
 mod files;
 mod from_slice;
 mod hints;
@@ -104,6 +105,7 @@ enum OfUnits {
     Replaced,
     Splits,
     Backs,
+    Ends,
     Matches,
     Nocase,
     Terminated,
@@ -111,7 +113,7 @@ enum OfUnits {
     Decoded(Decoder),
 }
 
-static OF_UNITS: [(&str, OfUnits); 29] = [
+static OF_UNITS: [(&str, OfUnits); 30] = [
     ("items", OfUnits::Decoded(Decoder::Strict)),
     ("lossy", OfUnits::Decoded(Decoder::Lossy)),
     ("hints_lossy", OfUnits::Decoded(Decoder::LossyHints)),
@@ -141,6 +143,7 @@ static OF_UNITS: [(&str, OfUnits); 29] = [
     ("terminated", OfUnits::Terminated),
     ("backs", OfUnits::Backs),
     ("matches", OfUnits::Matches),
+    ("ends", OfUnits::Ends),
 ];
 
 impl Suite for ViewSuite {
@@ -259,6 +262,7 @@ fn with_units<C: Width>(
         OfUnits::Nocase => nocase::asked(memory, answer, units, question),
         OfUnits::Terminated => terminated::asked(memory, answer, units, question),
         OfUnits::Backs => backs::asked(memory, answer, units, question),
+        OfUnits::Ends => ends::asked(memory, answer, units, question),
         OfUnits::Matches => matches::asked(memory, answer, units, question),
         OfUnits::Sets(calls) => sets::asked(memory, answer, calls, units, question),
         OfUnits::Decoded(decoder) => decoded(memory, answer, decoder, units, question),

@@ -1,7 +1,7 @@
 //! The names of the groups.
 
 /// The groups, in the order in which they are printed.
-pub static GROUPS: [&str; 65] = [
+pub static GROUPS: [&str; 67] = [
     "items16",
     "items32",
     "lossy16",
@@ -67,6 +67,8 @@ pub static GROUPS: [&str; 65] = [
     "backs32",
     "matches16",
     "matches32",
+    "ends16",
+    "ends32",
 ];
 
 /// The groups with corrected answers, and the crate's faults.

@@ -1,0 +1,39 @@
+use Rattle.std.proofs.Common.{rules, ◌≡◌, ◌-◌, ◌∙◌, ap, arith, map, take, length}
+use Rattle.wide_forms.specs.EncodingForm.{code_units}
+use Rattle.wide_forms.specs.Laws.Ends.{IsWellFormed-code_units}
+use Rattle.wide_forms.specs.Laws.Forms.{some_units}
+use Rattle.wide_search.specs.Occurrences.{IsLastAt, OccursNowhere}
+use Rattle.wide_ustr.specs.View.{units_seen as units_of_view}
+use Rattle.wide_ustr.proofs.BothEnds.{char-apart}
+use Rattle.wide_ustr.proofs.InclusiveEnds.{inclusive-only, inclusive-rest}
+use Rattle.wide_utfstr.specs.View.{units_seen}
+use Rattle.wide_utfstr.proofs.Matched.{boundary-after_last}
+use Rattle.wide_utfstr.proofs.split_ends.UtfStrInclusiveBackViewChar.cut_off_inclusive.Goals as goal
+
+pub split_at-requires-2 : goal.split_at-requires-2
+split_at-requires-2 g c =
+    let us = units_seen c.args.self in
+    let body = units_of_view c.split_at.result.0 in
+    let same : units_of_view c.from_slice-units.result ≡ us = search rules in
+    let is_body : body ≡ take c.saturating_sub.result us = c.split_at.ensures.prefix ∙ ap (take c.saturating_sub.result) same in
+    boundary-after_last g.C.Unit.form g.C.Unit.number (code_units g.C.Unit.form c.args.c) us body c.saturating_sub.result c.in-Some.at c.char_len.result (IsWellFormed-code_units g.C.Unit.form c.args.c c.ranges.c.0) c.args.self.well_formed
+    (some_units g.C.Unit.form c.args.c) c.char_len.ensures.value is_body c.in-Some.ensures.last
+
+pub returns-in_default-clause-none : goal.returns-in_default-clause-none
+returns-in_default-clause-none g c =
+    let us = units_seen c.args.self in
+    let body = units_of_view c.split_at.result.0 in
+    let same : units_of_view c.from_slice-units.result ≡ us = search rules in
+    let is_body : body ≡ take c.saturating_sub.result us = c.split_at.ensures.prefix ∙ ap (take c.saturating_sub.result) same in
+    inclusive-only g.C.Unit.number (code_units g.C.Unit.form c.args.c) us body c.saturating_sub.result (some_units g.C.Unit.form c.args.c) is_body
+    (omega (arith, c.saturating_sub.ensures, c.len.ensures, ap length same)) c.in_default.ensures.none
+
+pub returns-clause-some : goal.returns-clause-some
+returns-clause-some g c =
+    let us = units_seen c.args.self in
+    let body = units_of_view c.split_at.result.0 in
+    let same : units_of_view c.from_slice-units.result ≡ us = search rules in
+    let is_body : body ≡ take c.saturating_sub.result us = c.split_at.ensures.prefix ∙ ap (take c.saturating_sub.result) same in
+    inclusive-rest g.C.Unit.number (code_units g.C.Unit.form c.args.c) us body c.saturating_sub.result (some_units g.C.Unit.form c.args.c) is_body
+    (omega (arith, c.saturating_sub.ensures, c.len.ensures, ap length same)) (units_seen c.split_at-2.result.0) (units_seen c.split_at-2.result.1) c.in-Some.at c.char_len.result
+    (char-apart g.C.Unit.form c.args.c c.ranges.c.0) c.char_len.ensures.value c.in-Some.ensures.last c.split_at-2.ensures.prefix c.split_at-2.ensures.back

@@ -1,0 +1,150 @@
+//! The idioms of `CALLING.md` that no other caller has.
+
+use std::alloc::Global;
+use std::collections::HashMap;
+use widestring::bytes::utf16_of_bytes;
+use widestring::error::{OutOfMemory, UCStringError};
+use widestring::ustring::UStrInUstring;
+use widestring::utfstring::UtfStrInUtfstring;
+use widestring::{U16CString, U16Str, U16String, Utf16Str, Utf16String};
+
+/// Returns the lines of a text in the order of their code points.
+pub fn sorted_lines<'a>(
+    alloc: Global,
+    text: Utf16Str<'a>,
+) -> Result<Vec<Utf16Str<'a>>, OutOfMemory> {
+    let mut lines: Vec<Utf16Str<'_>> = text.lines().collect(alloc)?;
+    lines.sort_by(|a, b| a.cmp_code_points(*b))?;
+    Ok(lines)
+}
+
+/// Sorts names by their code points.
+pub fn sort_names(names: &mut Vec<Utf16String>) -> Result<(), OutOfMemory> {
+    names.sort_by(|a, b| a.as_utfstr().cmp_code_points(b.as_utfstr()))?;
+    Ok(())
+}
+
+/// Returns how often each word of a text occurs.
+pub fn word_counts(
+    alloc: Global,
+    text: Utf16Str<'_>,
+) -> Result<HashMap<Utf16String, usize>, OutOfMemory> {
+    let mut counts: HashMap<Utf16String, usize> = HashMap::new(alloc);
+    for word in text.split_whitespace() {
+        let key = word.to_utfstring(alloc)?;
+        let count = counts.get(&key).copied().unwrap_or(0);
+        counts.insert(key, count.saturating_add(1))?;
+    }
+    Ok(counts)
+}
+
+/// Returns the number that a map has for a view, or 0.
+pub fn number_of(
+    alloc: Global,
+    numbers: &HashMap<U16String, usize>,
+    view: U16Str<'_>,
+) -> Result<usize, OutOfMemory> {
+    let number = numbers.get(&view.to_ustring(alloc)?).copied();
+    Ok(number.unwrap_or(0))
+}
+
+/// Returns the units of bytes, which are big endian unless they have a BOM.
+pub fn big_endian_units(alloc: Global, bytes: &[u8]) -> Result<Vec<u16>, OutOfMemory> {
+    let file = utf16_of_bytes(bytes);
+    if file.has_bom {
+        let units: Vec<u16> = file.units.collect(alloc)?;
+        return Ok(units);
+    }
+    let units: Vec<u16> = file.units.map(u16::swap_bytes).collect(alloc)?;
+    Ok(units)
+}
+
+/// Returns a copy of the text with a mark before each digit.
+pub fn digits_marked(alloc: Global, text: Utf16Str<'_>) -> Result<Utf16String, OutOfMemory> {
+    let mut copy = text.to_utfstring(alloc)?;
+    for (at, c) in text.char_indices().rev() {
+        if c.is_ascii_digit() && copy.as_utfstr().is_char_boundary(at) {
+            copy.insert(at, '#')?;
+        }
+    }
+    Ok(copy)
+}
+
+/// Returns how often a needle occurs without overlapping, if it is not empty.
+pub fn occurrences(text: Utf16Str<'_>, needle: Utf16Str<'_>) -> usize {
+    let mut rest = text;
+    let mut count: usize = 0;
+    for _ in 0..text.len() {
+        let Some((_, after)) = rest.split_once(needle) else {
+            break;
+        };
+        count = count.saturating_add(1);
+        rest = after;
+    }
+    count
+}
+
+/// Returns how often a needle occurs without overlapping, from the back, if it is not empty.
+pub fn occurrences_back(text: Utf16Str<'_>, needle: Utf16Str<'_>) -> usize {
+    let mut rest = text;
+    let mut count: usize = 0;
+    for _ in 0..text.len() {
+        let Some(at) = rest.rfind(needle) else {
+            break;
+        };
+        count = count.saturating_add(1);
+        rest = rest.split_at(at).0;
+    }
+    count
+}
+
+/// Trims each view of a vector.
+pub fn trim_all(views: &mut Vec<Utf16Str<'_>>) {
+    for view in views.iter_mut() {
+        *view = view.trim();
+    }
+}
+
+/// Returns a copy of the first of the longest words.
+pub fn longest_word(alloc: Global, text: Utf16Str<'_>) -> Result<Utf16String, OutOfMemory> {
+    let mut longest = Utf16String::new(alloc);
+    for word in text.split_whitespace() {
+        if word.char_count() > longest.as_utfstr().char_count() {
+            longest = word.to_utfstring(alloc)?;
+        }
+    }
+    Ok(longest)
+}
+
+/// Returns the index of the first NUL of units that are to be a C string, or `None` if there is none before the end.
+pub fn nul_within(units: Vec<u16>) -> Option<usize> {
+    match U16CString::from_vec(units) {
+        Ok(_) => None,
+        Err(UCStringError::ContainsNul(fault)) => Some(fault.nul_position()),
+        Err(UCStringError::OutOfMemory(_vector)) => None,
+    }
+}
+
+/// Returns how many characters are before an offset, and how many bytes in UTF-8, or `None` if it is no boundary.
+pub fn position(text: Utf16Str<'_>, offset: usize) -> Option<(usize, usize)> {
+    let before = text.get(..offset)?;
+    Some((before.char_count(), before.encode_utf8().count()))
+}
+
+/// Returns strings that each have a NUL after them, up to the first empty one.
+pub fn strings_of(alloc: Global, units: &[u16]) -> Result<Vec<U16Str<'_>>, OutOfMemory> {
+    let mut strings: Vec<U16Str<'_>> = Vec::new(alloc);
+    for string in U16Str::from_slice(units).split_unit(0) {
+        if string.is_empty() {
+            break;
+        }
+        strings.push(string)?;
+    }
+    Ok(strings)
+}
+
+/// Returns the units of bytes in Latin-1.
+pub fn units_of_latin_1(alloc: Global, bytes: &[u8]) -> Result<Vec<u16>, OutOfMemory> {
+    let units: Vec<u16> = bytes.iter().map(|byte| u16::from(*byte)).collect(alloc)?;
+    Ok(units)
+}
