@@ -1,750 +1,860 @@
 //! The examples of `widestring::utfstr`.
+use crate::holds;
 use std::cmp::Ordering;
 use std::test::Fail;
 use widestring::utfstr::{UCStrInUtfstr, UStrInUtfstr, Utf16Str, Utf32Str};
 use widestring::{U16CStr, U16Str, Utf16String};
 
-#[test]
-fn example_of_utfstr(rt: HostRuntime) -> Result<(), Fail> {
+fn example_of_utfstr() -> Result<bool, Fail> {
     let text = Utf16Str::from_slice(&[0x48, 0x69, 0xd83d, 0xde00])?;
-    assert!(rt; text.len() == 4);
-    assert!(rt; text.eq_str("Hi😀"));
-    Ok(())
+    let mut holds = text.len() == 4;
+    holds &= text.eq_str("Hi😀");
+    Ok(holds)
 }
 
-#[test]
-fn example_of_utfstr_is_char_boundary(rt: HostRuntime) -> Result<(), Fail> {
+fn example_of_utfstr_is_char_boundary() -> Result<bool, Fail> {
     let text = Utf16Str::from_slice(&[0x48, 0xd83d, 0xde00])?;
-    assert!(rt; text.is_char_boundary(1));
-    assert!(rt; !text.is_char_boundary(2));
-    assert!(rt; text.is_char_boundary(3));
-    assert!(rt; !text.is_char_boundary(4));
-    Ok(())
+    let mut holds = text.is_char_boundary(1);
+    holds &= !text.is_char_boundary(2);
+    holds &= text.is_char_boundary(3);
+    holds &= !text.is_char_boundary(4);
+    Ok(holds)
 }
 
-#[test]
-fn example_of_utfstr_char_count(rt: HostRuntime) -> Result<(), Fail> {
+fn example_of_utfstr_char_count() -> Result<bool, Fail> {
     let text = Utf16Str::from_slice(&[0x48, 0xd83d, 0xde00])?;
-    assert!(rt; text.len() == 3);
-    assert!(rt; text.char_count() == 2);
-    Ok(())
+    let mut holds = text.len() == 3;
+    holds &= text.char_count() == 2;
+    Ok(holds)
 }
 
-#[test]
-fn example_of_utfstr_unit_offset(rt: HostRuntime) -> Result<(), Fail> {
+fn example_of_utfstr_unit_offset() -> Result<bool, Fail> {
     let text = Utf16Str::from_slice(&[0x48, 0xd83d, 0xde00, 0x21])?;
-    assert!(rt; text.unit_offset(2) == Some(3));
-    assert!(rt; text.unit_offset(3) == Some(4));
-    assert!(rt; text.unit_offset(4).is_none());
-    Ok(())
+    let mut holds = text.unit_offset(2) == Some(3);
+    holds &= text.unit_offset(3) == Some(4);
+    holds &= text.unit_offset(4).is_none();
+    Ok(holds)
 }
 
-#[test]
-fn example_of_utfstr_get(rt: HostRuntime) -> Result<(), Fail> {
+fn example_of_utfstr_get() -> Result<bool, Fail> {
     let text = Utf16Str::from_slice(&[0x48, 0xd83d, 0xde00])?;
-    assert!(rt; text.get(1..).is_some_and(|emoji| emoji.eq_str("😀")));
-    assert!(rt; text.get(2..).is_none());
-    Ok(())
+    let mut holds = text.get(1..).is_some_and(|emoji| emoji.eq_str("😀"));
+    holds &= text.get(2..).is_none();
+    Ok(holds)
 }
 
-#[test]
-fn example_of_utfstr_slice(rt: HostRuntime) -> Result<(), Fail> {
+fn example_of_utfstr_slice() -> Result<bool, Fail> {
     let text = Utf16Str::from_slice(&[0x48, 0xd83d, 0xde00])?;
     let end = text.floor_char_boundary(2);
-    assert!(rt; text.slice(..end).eq_str("H"));
-    Ok(())
+    Ok(text.slice(..end).eq_str("H"))
 }
 
-#[test]
-fn example_of_utfstr_split_at(rt: HostRuntime) -> Result<(), Fail> {
+fn example_of_utfstr_split_at() -> Result<bool, Fail> {
     let setting = Utf16Str::from_slice(&[0xe9, 0x3d, 0x31])?;
     let Some(at) = setting.find_char('=') else {
-        panic!(rt; "an equals sign is at index 1")
+        return Ok(false);
     };
     let (name, rest) = setting.split_at(at);
-    assert!(rt; name.eq_str("é"));
-    assert!(rt; rest.eq_str("=1"));
-    Ok(())
+    let mut holds = name.eq_str("é");
+    holds &= rest.eq_str("=1");
+    Ok(holds)
 }
 
-#[test]
-fn example_of_utfstr_chars(rt: HostRuntime) -> Result<(), Fail> {
+fn example_of_utfstr_chars() -> Result<bool, Fail> {
     let text = Utf16Str::from_slice(&[0xe9, 0xd83d, 0xde00])?;
     let mut characters = text.chars();
-    assert!(rt; characters.next() == Some('é'));
-    assert!(rt; characters.next_back() == Some('😀'));
-    Ok(())
+    let mut holds = characters.next() == Some('é');
+    holds &= characters.next_back() == Some('😀');
+    Ok(holds)
 }
 
-#[test]
-fn example_of_utfstr_char_indices(rt: HostRuntime) -> Result<(), Fail> {
+fn example_of_utfstr_char_indices() -> Result<bool, Fail> {
     let text = Utf16Str::from_slice(&[0xd83d, 0xde00, 0x31, 0x32])?;
     let digit = text.char_indices().find(|at| at.1.is_ascii_digit());
-    assert!(rt; digit == Some((2, '1')));
-    Ok(())
+    Ok(digit == Some((2, '1')))
 }
 
-#[test]
-fn example_of_utfstr_encode_utf8(rt: HostRuntime) -> Result<(), Fail> {
+fn example_of_utfstr_encode_utf8() -> Result<bool, Fail> {
     let text = Utf16Str::from_slice(&[0xe9, 0xd83d, 0xde00])?;
     let mut bytes = text.encode_utf8();
-    assert!(rt; bytes.next() == Some(0xc3));
-    assert!(rt; bytes.next() == Some(0xa9));
-    Ok(())
+    let mut holds = bytes.next() == Some(0xc3);
+    holds &= bytes.next() == Some(0xa9);
+    Ok(holds)
 }
 
-#[test]
-fn example_of_utfstr_from_slice(rt: HostRuntime) -> Result<(), Fail> {
-    assert!(rt; Utf16Str::from_slice(&[0xd83d, 0xde00]).is_ok());
+fn example_of_utfstr_from_slice() -> Result<bool, Fail> {
+    let mut holds = Utf16Str::from_slice(&[0xd83d, 0xde00]).is_ok();
     let fault = Utf16Str::from_slice(&[0xd83d, 0xde00, 0xdc00]).err();
-    assert!(rt; fault.map(|fault| (fault.index(), fault.item())) == Some((2, 1)));
-    Ok(())
+    holds &= fault.map(|fault| (fault.index(), fault.item())) == Some((2, 1));
+    Ok(holds)
 }
 
-#[test]
-fn example_of_utfstr_as_ustr(rt: HostRuntime) -> Result<(), Fail> {
+fn example_of_utfstr_as_ustr() -> Result<bool, Fail> {
     let text = Utf16Str::from_slice(&[0x48, 0xd83d, 0xde00])?;
-    assert!(rt; text.get(2..).is_none());
-    assert!(rt; text.as_ustr().get(2..) == Some(U16Str::from_slice(&[0xde00])));
-    Ok(())
+    let mut holds = text.get(2..).is_none();
+    holds &= text.as_ustr().get(2..) == Some(U16Str::from_slice(&[0xde00]));
+    Ok(holds)
 }
 
-#[test]
-fn example_of_utfstr_code_units(rt: HostRuntime) -> Result<(), Fail> {
+fn example_of_utfstr_code_units() -> Result<bool, Fail> {
     let text = Utf16Str::from_slice(&[0x48, 0xd83d, 0xde00])?;
     let mut units = text.code_units();
-    assert!(rt; units.next() == Some(0x48));
-    assert!(rt; units.next_back() == Some(0xde00));
-    assert!(rt; units.next_back() == Some(0xd83d));
-    assert!(rt; units.next().is_none());
-    Ok(())
+    let mut holds = units.next() == Some(0x48);
+    holds &= units.next_back() == Some(0xde00);
+    holds &= units.next_back() == Some(0xd83d);
+    holds &= units.next().is_none();
+    Ok(holds)
 }
 
-#[test]
-fn example_of_utfstr_encode_utf32(rt: HostRuntime) -> Result<(), Fail> {
+fn example_of_utfstr_encode_utf32() -> Result<bool, Fail> {
     let mut units = Utf16Str::from_slice(&[0x48, 0xd83d, 0xde00])?.encode_utf32();
-    assert!(rt; units.next() == Some(0x48));
-    assert!(rt; units.next() == Some(0x1f600));
-    Ok(())
+    let mut holds = units.next() == Some(0x48);
+    holds &= units.next() == Some(0x1f600);
+    Ok(holds)
 }
 
-#[test]
-fn example_of_utfstr_char_at(rt: HostRuntime) -> Result<(), Fail> {
+fn example_of_utfstr_char_at() -> Result<bool, Fail> {
     let text = Utf32Str::from_slice(&[0x61, 0x1f600])?;
-    assert!(rt; text.len() == 2 && text.char_at(1) == '😀');
-    Ok(())
+    Ok(text.len() == 2 && text.char_at(1) == '😀')
 }
 
-#[test]
-fn example_of_utfstr_encode_utf16(rt: HostRuntime) -> Result<(), Fail> {
+fn example_of_utfstr_encode_utf16() -> Result<bool, Fail> {
     let mut units = Utf32Str::from_slice(&[0x1f600])?.encode_utf16();
-    assert!(rt; units.next() == Some(0xd83d));
-    assert!(rt; units.next() == Some(0xde00));
-    Ok(())
+    let mut holds = units.next() == Some(0xd83d);
+    holds &= units.next() == Some(0xde00);
+    Ok(holds)
 }
 
-#[test]
-fn example_of_utfstr_trim_start(rt: HostRuntime) -> Result<(), Fail> {
+fn example_of_utfstr_trim_start() -> Result<bool, Fail> {
     let text = Utf16Str::from_slice(&[0x3000, 0x20, 0xe9, 0x20])?;
     let rest = text.trim_start();
-    assert!(rt; rest.eq_str("é "));
-    Ok(())
+    Ok(rest.eq_str("é "))
 }
 
-#[test]
-fn example_of_utfstr_trim_end(rt: HostRuntime) -> Result<(), Fail> {
+fn example_of_utfstr_trim_end() -> Result<bool, Fail> {
     let text = Utf16Str::from_slice(&[0x20, 0xd83d, 0xde00, 0xd, 0xa])?;
     let line = text.trim_end();
-    assert!(rt; line.eq_str(" 😀"));
-    Ok(())
+    Ok(line.eq_str(" 😀"))
 }
 
-#[test]
-fn example_of_utfstr_trim(rt: HostRuntime) -> Result<(), Fail> {
+fn example_of_utfstr_trim() -> Result<bool, Fail> {
     let text = Utf16Str::from_slice(&[0x3000, 0x48, 0x69, 0x20, 0xa])?;
-    assert!(rt; text.trim().eq_str("Hi"));
-    Ok(())
+    Ok(text.trim().eq_str("Hi"))
 }
 
-#[test]
-fn example_of_utfstr_lines(rt: HostRuntime) -> Result<(), Fail> {
+fn example_of_utfstr_lines() -> Result<bool, Fail> {
     let text = Utf16Str::from_slice(&[0x48, 0x69, 0xd, 0xa, 0xd83d, 0xde00, 0xa])?;
     let mut lines = text.lines();
-    assert!(rt; lines.next().is_some_and(|line| line.eq_str("Hi")));
-    assert!(rt; lines.next().is_some_and(|line| line.eq_str("😀")));
-    assert!(rt; lines.next().is_none());
-    Ok(())
+    let mut holds = lines.next().is_some_and(|line| line.eq_str("Hi"));
+    holds &= lines.next().is_some_and(|line| line.eq_str("😀"));
+    holds &= lines.next().is_none();
+    Ok(holds)
 }
 
-#[test]
-fn example_of_utfstr_line_indices(rt: HostRuntime) -> Result<(), Fail> {
+fn example_of_utfstr_line_indices() -> Result<bool, Fail> {
     let text = Utf16Str::from_slice(&[0xd83d, 0xde00, 0xa, 0x48, 0x69])?;
     let last = text.line_indices().last();
-    assert!(rt; last.is_some_and(|(offset, line)| offset == 3 && line.eq_str("Hi")));
-    Ok(())
+    Ok(last.is_some_and(|(offset, line)| offset == 3 && line.eq_str("Hi")))
 }
 
-#[test]
-fn example_of_utfstr_starts_with(rt: HostRuntime) -> Result<(), Fail> {
+fn example_of_utfstr_starts_with() -> Result<bool, Fail> {
     let path = Utf16Str::from_slice(&[0x43, 0x3a, 0x5c, 0xe9])?;
-    assert!(rt; path.starts_with(Utf16Str::from_slice(&[0x43, 0x3a])?));
-    assert!(rt; !path.starts_with(Utf16Str::from_slice(&[0x63, 0x3a])?));
-    Ok(())
+    let mut holds = path.starts_with(Utf16Str::from_slice(&[0x43, 0x3a])?);
+    holds &= !path.starts_with(Utf16Str::from_slice(&[0x63, 0x3a])?);
+    Ok(holds)
 }
 
-#[test]
-fn example_of_utfstr_ends_with(rt: HostRuntime) -> Result<(), Fail> {
+fn example_of_utfstr_ends_with() -> Result<bool, Fail> {
     let text = Utf16Str::from_slice(&[0x48, 0xd83d, 0xde00])?;
     let emoji = Utf16Str::from_slice(&[0xd83d, 0xde00])?;
-    assert!(rt; text.ends_with(emoji));
-    assert!(rt; !emoji.ends_with(text));
-    Ok(())
+    let mut holds = text.ends_with(emoji);
+    holds &= !emoji.ends_with(text);
+    Ok(holds)
 }
 
-#[test]
-fn example_of_utfstr_contains(rt: HostRuntime) -> Result<(), Fail> {
+fn example_of_utfstr_contains() -> Result<bool, Fail> {
     let text = Utf16Str::from_slice(&[0xe9, 0x3d, 0x3e, 0x31])?;
     let arrow = Utf16Str::from_slice(&[0x3d, 0x3e])?;
-    assert!(rt; text.contains(arrow));
-    assert!(rt; !arrow.contains(text));
-    Ok(())
+    let mut holds = text.contains(arrow);
+    holds &= !arrow.contains(text);
+    Ok(holds)
 }
 
-#[test]
-fn example_of_utfstr_find(rt: HostRuntime) -> Result<(), Fail> {
+fn example_of_utfstr_find() -> Result<bool, Fail> {
     let text = Utf16Str::from_slice(&[0xd83d, 0xde00, 0x3d, 0x3e, 0x31])?;
     let arrow = Utf16Str::from_slice(&[0x3d, 0x3e])?;
-    assert!(rt; text.find(arrow) == Some(2));
-    assert!(rt; arrow.find(text).is_none());
-    Ok(())
+    let mut holds = text.find(arrow) == Some(2);
+    holds &= arrow.find(text).is_none();
+    Ok(holds)
 }
 
-#[test]
-fn example_of_utfstr_rfind(rt: HostRuntime) -> Result<(), Fail> {
+fn example_of_utfstr_rfind() -> Result<bool, Fail> {
     let path = Utf16Str::from_slice(&[0x43, 0x3a, 0x5c, 0xe9, 0x5c, 0x61])?;
     let separator = Utf16Str::from_slice(&[0x5c])?;
-    assert!(rt; path.rfind(separator) == Some(4));
-    assert!(rt; separator.rfind(path).is_none());
-    Ok(())
+    let mut holds = path.rfind(separator) == Some(4);
+    holds &= separator.rfind(path).is_none();
+    Ok(holds)
 }
 
-#[test]
-fn example_of_utfstr_find_char(rt: HostRuntime) -> Result<(), Fail> {
+fn example_of_utfstr_find_char() -> Result<bool, Fail> {
     let text = Utf16Str::from_slice(&[0x48, 0xd83d, 0xde00, 0x21])?;
-    assert!(rt; text.find_char('😀') == Some(1));
-    assert!(rt; text.find_char('!') == Some(3));
-    Ok(())
+    let mut holds = text.find_char('😀') == Some(1);
+    holds &= text.find_char('!') == Some(3);
+    Ok(holds)
 }
 
-#[test]
-fn example_of_utfstr_strip_prefix(rt: HostRuntime) -> Result<(), Fail> {
+fn example_of_utfstr_strip_prefix() -> Result<bool, Fail> {
     let path = Utf16Str::from_slice(&[0x43, 0x3a, 0xe9])?;
     let drive = Utf16Str::from_slice(&[0x43, 0x3a])?;
     let rest = path.strip_prefix(drive);
-    assert!(rt; rest.is_some_and(|rest| rest.eq_str("é")));
-    assert!(rt; drive.strip_prefix(path).is_none());
-    Ok(())
+    let mut holds = rest.is_some_and(|rest| rest.eq_str("é"));
+    holds &= drive.strip_prefix(path).is_none();
+    Ok(holds)
 }
 
-#[test]
-fn example_of_utfstr_strip_suffix(rt: HostRuntime) -> Result<(), Fail> {
+fn example_of_utfstr_strip_suffix() -> Result<bool, Fail> {
     let name = Utf16Str::from_slice(&[0xe9, 0x2e, 0x72, 0x63])?;
     let extension = Utf16Str::from_slice(&[0x2e, 0x72, 0x63])?;
     let stem = name.strip_suffix(extension);
-    assert!(rt; stem.is_some_and(|stem| stem.eq_str("é")));
-    assert!(rt; extension.strip_suffix(name).is_none());
-    Ok(())
+    let mut holds = stem.is_some_and(|stem| stem.eq_str("é"));
+    holds &= extension.strip_suffix(name).is_none();
+    Ok(holds)
 }
 
-#[test]
-fn example_of_utfstr_split_once(rt: HostRuntime) -> Result<(), Fail> {
+fn example_of_utfstr_split_once() -> Result<bool, Fail> {
     let setting = Utf16Str::from_slice(&[0xe9, 0x3d, 0x31])?;
     let parts = setting.split_once(Utf16Str::from_slice(&[0x3d])?);
-    assert!(rt; parts.is_some_and(|(name, value)| name.eq_str("é") && value.eq_str("1")));
-    Ok(())
+    Ok(parts.is_some_and(|(name, value)| name.eq_str("é") && value.eq_str("1")))
 }
 
-#[test]
-fn example_of_utfstr_rsplit_once(rt: HostRuntime) -> Result<(), Fail> {
+fn example_of_utfstr_rsplit_once() -> Result<bool, Fail> {
     let path = Utf16Str::from_slice(&[0x61, 0x2f, 0xe9, 0x2f, 0x62])?;
     let parts = path.rsplit_once(Utf16Str::from_slice(&[0x2f])?);
-    assert!(rt; parts.is_some_and(|(folder, name)| folder.eq_str("a/é") && name.eq_str("b")));
-    Ok(())
+    Ok(parts.is_some_and(|(folder, name)| folder.eq_str("a/é") && name.eq_str("b")))
 }
 
-#[test]
-fn example_of_utfstr_floor_char_boundary(rt: HostRuntime) -> Result<(), Fail> {
+fn example_of_utfstr_floor_char_boundary() -> Result<bool, Fail> {
     let text = Utf16Str::from_slice(&[0x61, 0xd83d, 0xde00])?;
-    assert!(rt; text.floor_char_boundary(2) == 1);
-    assert!(rt; text.floor_char_boundary(9) == 3);
-    Ok(())
+    let mut holds = text.floor_char_boundary(2) == 1;
+    holds &= text.floor_char_boundary(9) == 3;
+    Ok(holds)
 }
 
-#[test]
-fn example_of_utfstr_ceil_char_boundary(rt: HostRuntime) -> Result<(), Fail> {
+fn example_of_utfstr_ceil_char_boundary() -> Result<bool, Fail> {
     let text = Utf16Str::from_slice(&[0x61, 0xd83d, 0xde00])?;
-    assert!(rt; text.ceil_char_boundary(2) == 3);
-    Ok(())
+    Ok(text.ceil_char_boundary(2) == 3)
 }
 
-#[test]
-fn example_of_utfstr_escape_unicode(rt: HostRuntime) -> Result<(), Fail> {
+fn example_of_utfstr_escape_unicode(rt: &HostRuntime) -> Result<bool, Fail> {
     let text = Utf16Str::from_slice(&[0x48, 0xd83d, 0xde00])?;
-    assert!(rt; text.escape_unicode().eq("\\u{48}\\u{1f600}".chars()));
+    let mut holds = text.escape_unicode().eq("\\u{48}\\u{1f600}".chars());
     let line = format!(in rt.alloc(); "<{}>", text.escape_unicode())?;
-    assert!(rt; line.as_str() == "<\\u{48}\\u{1f600}>");
-    Ok(())
+    holds &= line.as_str() == "<\\u{48}\\u{1f600}>";
+    Ok(holds)
 }
 
-#[test]
-fn example_of_utfstr_escape_default(rt: HostRuntime) -> Result<(), Fail> {
+fn example_of_utfstr_escape_default(rt: &HostRuntime) -> Result<bool, Fail> {
     let text = Utf16Str::from_slice(&[0x22, 0xe9, 0xa, 0xd83d, 0xde00])?;
-    assert!(rt; text.escape_default().eq("\\\"\\u{e9}\\n\\u{1f600}".chars()));
+    let mut holds = text.escape_default().eq("\\\"\\u{e9}\\n\\u{1f600}".chars());
     let line = format!(in rt.alloc(); "<{}>", text.escape_default())?;
-    assert!(rt; line.as_str() == "<\\\"\\u{e9}\\n\\u{1f600}>");
-    Ok(())
+    holds &= line.as_str() == "<\\\"\\u{e9}\\n\\u{1f600}>";
+    Ok(holds)
 }
 
-#[test]
-fn example_of_utfstr_escape_debug(rt: HostRuntime) -> Result<(), Fail> {
+fn example_of_utfstr_escape_debug(rt: &HostRuntime) -> Result<bool, Fail> {
     let text = Utf16Str::from_slice(&[0x22, 0xe9, 0xa, 0xd83d, 0xde00])?;
-    assert!(rt; text.escape_debug().eq("\\\"é\\n😀".chars()));
+    let mut holds = text.escape_debug().eq("\\\"é\\n😀".chars());
     let line = format!(in rt.alloc(); "<{}>", text.escape_debug())?;
-    assert!(rt; line.as_str() == "<\\\"é\\n😀>");
-    Ok(())
+    holds &= line.as_str() == "<\\\"é\\n😀>";
+    Ok(holds)
 }
 
-#[test]
-fn example_of_utfstr_is_ascii(rt: HostRuntime) -> Result<(), Fail> {
+fn example_of_utfstr_is_ascii(rt: &HostRuntime) -> Result<bool, Fail> {
     let name = Utf16String::from_str(rt.alloc(), "Name")?;
-    assert!(rt; name.as_utfstr().is_ascii());
-    Ok(())
+    Ok(name.as_utfstr().is_ascii())
 }
 
-#[test]
-fn example_of_utfstr_eq_ignore_ascii_case(rt: HostRuntime) -> Result<(), Fail> {
+fn example_of_utfstr_eq_ignore_ascii_case(rt: &HostRuntime) -> Result<bool, Fail> {
     let first = Utf16String::from_str(rt.alloc(), "Größe")?;
     let second = Utf16String::from_str(rt.alloc(), "GRößE")?;
-    assert!(rt; first.as_utfstr().eq_ignore_ascii_case(second.as_utfstr()));
-    Ok(())
+    Ok(first.as_utfstr().eq_ignore_ascii_case(second.as_utfstr()))
 }
 
-#[test]
-fn example_of_utfstr_eq_str_ignore_ascii_case(rt: HostRuntime) -> Result<(), Fail> {
+fn example_of_utfstr_eq_str_ignore_ascii_case(rt: &HostRuntime) -> Result<bool, Fail> {
     let text = Utf16String::from_str(rt.alloc(), "Größe")?;
-    assert!(rt; text.as_utfstr().eq_str_ignore_ascii_case("GRößE"));
-    assert!(rt; !text.as_utfstr().eq_str_ignore_ascii_case("GRÖSSE"));
-    Ok(())
+    let mut holds = text.as_utfstr().eq_str_ignore_ascii_case("GRößE");
+    holds &= !text.as_utfstr().eq_str_ignore_ascii_case("GRÖSSE");
+    Ok(holds)
 }
 
-#[test]
-fn example_of_utfstr_starts_with_ignore_ascii_case(rt: HostRuntime) -> Result<(), Fail> {
+fn example_of_utfstr_starts_with_ignore_ascii_case(rt: &HostRuntime) -> Result<bool, Fail> {
     let key = Utf16String::from_str(rt.alloc(), "HKLM\\Größe")?;
     let root = Utf16String::from_str(rt.alloc(), "hklm\\g")?;
-    assert!(rt;
-        key.as_utfstr()
-            .starts_with_ignore_ascii_case(root.as_utfstr())
-    );
-    Ok(())
+    let (key, root) = (key.as_utfstr(), root.as_utfstr());
+    Ok(key.starts_with_ignore_ascii_case(root))
 }
 
-#[test]
-fn example_of_utfstr_ends_with_ignore_ascii_case(rt: HostRuntime) -> Result<(), Fail> {
+fn example_of_utfstr_ends_with_ignore_ascii_case(rt: &HostRuntime) -> Result<bool, Fail> {
     let file = Utf16String::from_str(rt.alloc(), "Größe.TXT")?;
     let extension = Utf16String::from_str(rt.alloc(), ".txt")?;
-    assert!(rt;
-        file.as_utfstr()
-            .ends_with_ignore_ascii_case(extension.as_utfstr())
-    );
-    Ok(())
+    let (file, extension) = (file.as_utfstr(), extension.as_utfstr());
+    Ok(file.ends_with_ignore_ascii_case(extension))
 }
 
-#[test]
-fn example_of_utfstr_contains_ignore_ascii_case(rt: HostRuntime) -> Result<(), Fail> {
+fn example_of_utfstr_contains_ignore_ascii_case(rt: &HostRuntime) -> Result<bool, Fail> {
     let name = Utf16String::from_str(rt.alloc(), "Größe.TXT")?;
     let part = Utf16String::from_str(rt.alloc(), "E.t")?;
-    assert!(rt;
-        name.as_utfstr()
-            .contains_ignore_ascii_case(part.as_utfstr())
-    );
-    Ok(())
+    let (name, part) = (name.as_utfstr(), part.as_utfstr());
+    Ok(name.contains_ignore_ascii_case(part))
 }
 
-#[test]
-fn example_of_utfstr_find_ignore_ascii_case(rt: HostRuntime) -> Result<(), Fail> {
+fn example_of_utfstr_find_ignore_ascii_case(rt: &HostRuntime) -> Result<bool, Fail> {
     let file = Utf16String::from_str(rt.alloc(), "Größe.TXT")?;
     let extension = Utf16String::from_str(rt.alloc(), ".txt")?;
-    let at = file
-        .as_utfstr()
-        .find_ignore_ascii_case(extension.as_utfstr());
-    assert!(rt; at == Some(5));
-    assert!(rt;
-        extension
-            .as_utfstr()
-            .find_ignore_ascii_case(file.as_utfstr())
-            .is_none()
-    );
-    Ok(())
+    let (file, extension) = (file.as_utfstr(), extension.as_utfstr());
+    let mut holds = file.find_ignore_ascii_case(extension) == Some(5);
+    holds &= extension.find_ignore_ascii_case(file).is_none();
+    Ok(holds)
 }
 
-#[test]
-fn example_of_utfstr_starts_with_char(rt: HostRuntime) -> Result<(), Fail> {
+fn example_of_utfstr_starts_with_char() -> Result<bool, Fail> {
     let text = Utf16Str::from_slice(&[0xd83d, 0xde00, 0x21])?;
-    assert!(rt; text.starts_with_char('😀'));
-    assert!(rt; !text.starts_with_char('!'));
-    Ok(())
+    let mut holds = text.starts_with_char('😀');
+    holds &= !text.starts_with_char('!');
+    Ok(holds)
 }
 
-#[test]
-fn example_of_utfstr_ends_with_char(rt: HostRuntime) -> Result<(), Fail> {
+fn example_of_utfstr_ends_with_char() -> Result<bool, Fail> {
     let text = Utf16Str::from_slice(&[0x21, 0xd83d, 0xde00])?;
-    assert!(rt; text.ends_with_char('😀'));
-    assert!(rt; !text.ends_with_char('!'));
-    Ok(())
+    let mut holds = text.ends_with_char('😀');
+    holds &= !text.ends_with_char('!');
+    Ok(holds)
 }
 
-#[test]
-fn example_of_utfstr_strip_prefix_char(rt: HostRuntime) -> Result<(), Fail> {
+fn example_of_utfstr_strip_prefix_char() -> Result<bool, Fail> {
     let text = Utf16Str::from_slice(&[0xd83d, 0xde00, 0x21])?;
     let rest = text.strip_prefix_char('😀');
-    assert!(rt; rest.is_some_and(|rest| rest.eq_str("!")));
-    assert!(rt; text.strip_prefix_char('!').is_none());
-    Ok(())
+    let mut holds = rest.is_some_and(|rest| rest.eq_str("!"));
+    holds &= text.strip_prefix_char('!').is_none();
+    Ok(holds)
 }
 
-#[test]
-fn example_of_utfstr_strip_suffix_char(rt: HostRuntime) -> Result<(), Fail> {
+fn example_of_utfstr_strip_suffix_char() -> Result<bool, Fail> {
     let text = Utf16Str::from_slice(&[0x21, 0xd83d, 0xde00])?;
     let prefix = text.strip_suffix_char('😀');
-    assert!(rt; prefix.is_some_and(|prefix| prefix.eq_str("!")));
-    assert!(rt; text.strip_suffix_char('!').is_none());
-    Ok(())
+    let mut holds = prefix.is_some_and(|prefix| prefix.eq_str("!"));
+    holds &= text.strip_suffix_char('!').is_none();
+    Ok(holds)
 }
 
-#[test]
-fn example_of_utfstr_find_from(rt: HostRuntime) -> Result<(), Fail> {
+fn example_of_utfstr_find_from() -> Result<bool, Fail> {
     let text = Utf16Str::from_slice(&[0xe9, 0x2c, 0xd83d, 0xde00, 0x2c])?;
     let comma = Utf16Str::from_slice(&[0x2c])?;
-    assert!(rt; text.find_from(comma, 1) == Some(1));
-    assert!(rt; text.find_from(comma, 2) == Some(4));
-    assert!(rt; text.find_from(comma, 5).is_none());
-    Ok(())
+    let mut holds = text.find_from(comma, 1) == Some(1);
+    holds &= text.find_from(comma, 2) == Some(4);
+    holds &= text.find_from(comma, 5).is_none();
+    Ok(holds)
 }
 
-#[test]
-fn example_of_utfstr_find_char_from(rt: HostRuntime) -> Result<(), Fail> {
+fn example_of_utfstr_find_char_from() -> Result<bool, Fail> {
     let text = Utf16Str::from_slice(&[0xd83d, 0xde00, 0x21, 0xd83d, 0xde00])?;
-    assert!(rt; text.find_char_from('😀', 0) == Some(0));
-    assert!(rt; text.find_char_from('😀', 1) == Some(3));
-    assert!(rt; text.find_char_from('😀', 4).is_none());
-    Ok(())
+    let mut holds = text.find_char_from('😀', 0) == Some(0);
+    holds &= text.find_char_from('😀', 1) == Some(3);
+    holds &= text.find_char_from('😀', 4).is_none();
+    Ok(holds)
 }
 
-#[test]
-fn example_of_utfstr_eq_str(rt: HostRuntime) -> Result<(), Fail> {
+fn example_of_utfstr_eq_str() -> Result<bool, Fail> {
     let text = Utf16Str::from_slice(&[0x64, 0xe9, 0x6a, 0xe0])?;
-    assert!(rt; text.eq_str("déjà"));
-    assert!(rt; !text.eq_str("de\u{301}ja\u{300}"));
-    Ok(())
+    let mut holds = text.eq_str("déjà");
+    holds &= !text.eq_str("de\u{301}ja\u{300}");
+    Ok(holds)
 }
 
-#[test]
-fn example_of_utfstr_match_indices(rt: HostRuntime) -> Result<(), Fail> {
+fn example_of_utfstr_match_indices(rt: &HostRuntime) -> Result<bool, Fail> {
     let text = Utf16String::from_str(rt.alloc(), "x😀, 😀, y")?;
     let comma = Utf16String::from_str(rt.alloc(), ", ")?;
     let mut found = text.as_utfstr().match_indices(comma.as_utfstr());
-    assert!(rt; found.next() == Some((3, comma.as_utfstr())));
-    assert!(rt; found.next() == Some((7, comma.as_utfstr())));
-    assert!(rt; found.next().is_none());
-    Ok(())
+    let mut holds = found.next() == Some((3, comma.as_utfstr()));
+    holds &= found.next() == Some((7, comma.as_utfstr()));
+    holds &= found.next().is_none();
+    Ok(holds)
 }
 
-#[test]
-fn example_of_utfstr_match_indices_char(rt: HostRuntime) -> Result<(), Fail> {
+fn example_of_utfstr_match_indices_char() -> Result<bool, Fail> {
     let text = Utf16Str::from_slice(&[0xd83d, 0xde00, 0x21, 0xd83d, 0xde00])?;
     let mut found = text.match_indices_char('😀');
-    assert!(rt; found.next().is_some_and(|(offset, _)| offset == 0));
-    assert!(rt; found.next().is_some_and(|(offset, _)| offset == 3));
-    assert!(rt; found.next().is_none());
-    Ok(())
+    let mut holds = found.next().is_some_and(|(offset, _)| offset == 0);
+    holds &= found.next().is_some_and(|(offset, _)| offset == 3);
+    holds &= found.next().is_none();
+    Ok(holds)
 }
 
-#[test]
-fn example_of_utfstr_matches(rt: HostRuntime) -> Result<(), Fail> {
+fn example_of_utfstr_matches(rt: &HostRuntime) -> Result<bool, Fail> {
     let text = Utf16String::from_str(rt.alloc(), "aaa aa")?;
     let needle = Utf16String::from_str(rt.alloc(), "aa")?;
-    assert!(rt; text.as_utfstr().matches(needle.as_utfstr()).count() == 2);
-    Ok(())
+    Ok(text.as_utfstr().matches(needle.as_utfstr()).count() == 2)
 }
 
-#[test]
-fn example_of_utfstr_matches_char(rt: HostRuntime) -> Result<(), Fail> {
+fn example_of_utfstr_matches_char() -> Result<bool, Fail> {
     let text = Utf16Str::from_slice(&[0xd83d, 0xde00, 0x21, 0xd83d, 0xde00])?;
-    assert!(rt; text.matches_char('😀').count() == 2);
-    Ok(())
+    Ok(text.matches_char('😀').count() == 2)
 }
 
-#[test]
-fn example_of_utfstr_cmp_code_points(rt: HostRuntime) -> Result<(), Fail> {
+fn example_of_utfstr_cmp_code_points() -> Result<bool, Fail> {
     let emoji = Utf16Str::from_slice(&[0x61, 0xd83d, 0xde00])?;
     let letter = Utf16Str::from_slice(&[0x61, 0xff21])?;
-    assert!(rt; emoji < letter);
-    assert!(rt; emoji.cmp_code_points(letter) == Ordering::Greater);
-    Ok(())
+    let mut holds = emoji < letter;
+    holds &= emoji.cmp_code_points(letter) == Ordering::Greater;
+    Ok(holds)
 }
 
-#[test]
-fn example_of_utfstr_cmp_str(rt: HostRuntime) -> Result<(), Fail> {
+fn example_of_utfstr_cmp_str() -> Result<bool, Fail> {
     let text = Utf16Str::from_slice(&[0x61, 0xd83d, 0xde00])?;
-    assert!(rt; text.cmp_str("a😀") == Ordering::Equal);
-    assert!(rt; text.cmp_str("aＡ") == Ordering::Greater);
-    assert!(rt; text.cmp_str("a😀!") == Ordering::Less);
-    Ok(())
+    let mut holds = text.cmp_str("a😀") == Ordering::Equal;
+    holds &= text.cmp_str("aＡ") == Ordering::Greater;
+    holds &= text.cmp_str("a😀!") == Ordering::Less;
+    Ok(holds)
 }
 
-#[test]
-fn example_of_utfstr_find_any(rt: HostRuntime) -> Result<(), Fail> {
+fn example_of_utfstr_find_any() -> Result<bool, Fail> {
     let path = Utf16Str::from_slice(&[0xd83d, 0xde00, 0x2f, 0x62])?;
     let separators: &[char] = &['\\', '/'];
-    assert!(rt; path.find_any(separators) == Some(2));
-    Ok(())
+    Ok(path.find_any(separators) == Some(2))
 }
 
-#[test]
-fn example_of_utfstr_split_any(rt: HostRuntime) -> Result<(), Fail> {
+fn example_of_utfstr_split_any() -> Result<bool, Fail> {
     let list = Utf16Str::from_slice(&[0xe9, 0x2c, 0xd83d, 0xde00, 0x3b])?;
     let separators: &[char] = &[',', ';'];
     let mut parts = list.split_any(separators);
-    assert!(rt; parts.next().is_some_and(|part| part.eq_str("é")));
-    assert!(rt; parts.next().is_some_and(|part| part.eq_str("😀")));
-    assert!(rt; parts.next().is_some_and(|part| part.is_empty()));
-    assert!(rt; parts.next().is_none());
-    Ok(())
+    let mut holds = parts.next().is_some_and(|part| part.eq_str("é"));
+    holds &= parts.next().is_some_and(|part| part.eq_str("😀"));
+    holds &= parts.next().is_some_and(|part| part.is_empty());
+    holds &= parts.next().is_none();
+    Ok(holds)
 }
 
-#[test]
-fn example_of_utfstr_split_whitespace(rt: HostRuntime) -> Result<(), Fail> {
+fn example_of_utfstr_split_whitespace() -> Result<bool, Fail> {
     let line = Utf16Str::from_slice(&[0x20, 0xe9, 0x3000, 0x9, 0xd83d, 0xde00])?;
     let mut words = line.split_whitespace();
-    assert!(rt; words.next().is_some_and(|word| word.eq_str("é")));
-    assert!(rt; words.next().is_some_and(|word| word.eq_str("😀")));
-    assert!(rt; words.next().is_none());
-    Ok(())
+    let mut holds = words.next().is_some_and(|word| word.eq_str("é"));
+    holds &= words.next().is_some_and(|word| word.eq_str("😀"));
+    holds &= words.next().is_none();
+    Ok(holds)
 }
 
-#[test]
-fn example_of_utfstr_split_ascii_whitespace(rt: HostRuntime) -> Result<(), Fail> {
+fn example_of_utfstr_split_ascii_whitespace() -> Result<bool, Fail> {
     let line = Utf16Str::from_slice(&[0x61, 0x3000, 0x20, 0x20, 0x62])?;
     let mut words = line.split_ascii_whitespace();
-    assert!(rt; words.next().is_some_and(|word| word.len() == 2));
-    assert!(rt; words.next().is_some_and(|word| word.eq_str("b")));
-    assert!(rt; words.next().is_none());
-    Ok(())
+    let mut holds = words.next().is_some_and(|word| word.len() == 2);
+    holds &= words.next().is_some_and(|word| word.eq_str("b"));
+    holds &= words.next().is_none();
+    Ok(holds)
 }
 
-#[test]
-fn example_of_utfstr_trim_start_matches(rt: HostRuntime) -> Result<(), Fail> {
+fn example_of_utfstr_trim_start_matches() -> Result<bool, Fail> {
     let number = Utf16Str::from_slice(&[0x30, 0x30, 0x37, 0x30])?;
-    assert!(rt; number.trim_start_matches('0').eq_str("70"));
-    Ok(())
+    Ok(number.trim_start_matches('0').eq_str("70"))
 }
 
-#[test]
-fn example_of_utfstr_trim_end_matches(rt: HostRuntime) -> Result<(), Fail> {
+fn example_of_utfstr_trim_end_matches() -> Result<bool, Fail> {
     let folder = Utf16Str::from_slice(&[0x2f, 0xe9, 0x2f, 0x2f])?;
-    assert!(rt; folder.trim_end_matches('/').eq_str("/é"));
-    Ok(())
+    Ok(folder.trim_end_matches('/').eq_str("/é"))
 }
 
-#[test]
-fn example_of_utfstr_trim_matches(rt: HostRuntime) -> Result<(), Fail> {
+fn example_of_utfstr_trim_matches() -> Result<bool, Fail> {
     let quoted = Utf16Str::from_slice(&[0x22, 0xd83d, 0xde00, 0x22])?;
-    assert!(rt; quoted.trim_matches('"').eq_str("😀"));
-    Ok(())
+    Ok(quoted.trim_matches('"').eq_str("😀"))
 }
 
-#[test]
-fn example_of_utfstr_split(rt: HostRuntime) -> Result<(), Fail> {
+fn example_of_utfstr_split() -> Result<bool, Fail> {
     let list = Utf16Str::from_slice(&[0xe9, 0x2c, 0x20, 0xd83d, 0xde00])?;
     let mut parts = list.split(Utf16Str::from_slice(&[0x2c, 0x20])?);
-    assert!(rt; parts.next().is_some_and(|part| part.eq_str("é")));
-    assert!(rt; parts.next().is_some_and(|part| part.eq_str("😀")));
-    assert!(rt; parts.next().is_none());
-    Ok(())
+    let mut holds = parts.next().is_some_and(|part| part.eq_str("é"));
+    holds &= parts.next().is_some_and(|part| part.eq_str("😀"));
+    holds &= parts.next().is_none();
+    Ok(holds)
 }
 
-#[test]
-fn example_of_utfstr_split_char(rt: HostRuntime) -> Result<(), Fail> {
+fn example_of_utfstr_split_char() -> Result<bool, Fail> {
     let row = Utf16Str::from_slice(&[0xe9, 0x3b, 0xd83d, 0xde00, 0x3b])?;
     let mut fields = row.split_char(';');
-    assert!(rt; fields.next().is_some_and(|field| field.eq_str("é")));
-    assert!(rt; fields.next().is_some_and(|field| field.eq_str("😀")));
-    assert!(rt; fields.next().is_some_and(|field| field.is_empty()));
-    Ok(())
+    let mut holds = fields.next().is_some_and(|field| field.eq_str("é"));
+    holds &= fields.next().is_some_and(|field| field.eq_str("😀"));
+    holds &= fields.next().is_some_and(|field| field.is_empty());
+    Ok(holds)
 }
 
-#[test]
-fn example_of_utfstr_splitn(rt: HostRuntime) -> Result<(), Fail> {
+fn example_of_utfstr_splitn() -> Result<bool, Fail> {
     let list = Utf16Str::from_slice(&[0xe9, 0x2c, 0x20, 0x62, 0x2c, 0x20, 0x63])?;
     let mut parts = list.splitn(2, Utf16Str::from_slice(&[0x2c, 0x20])?);
-    assert!(rt; parts.next().is_some_and(|part| part.eq_str("é")));
-    assert!(rt; parts.next().is_some_and(|part| part.eq_str("b, c")));
-    assert!(rt; parts.next().is_none());
-    Ok(())
+    let mut holds = parts.next().is_some_and(|part| part.eq_str("é"));
+    holds &= parts.next().is_some_and(|part| part.eq_str("b, c"));
+    holds &= parts.next().is_none();
+    Ok(holds)
 }
 
-#[test]
-fn example_of_utfstr_splitn_char(rt: HostRuntime) -> Result<(), Fail> {
+fn example_of_utfstr_splitn_char() -> Result<bool, Fail> {
     let setting = Utf16Str::from_slice(&[0xe9, 0x3d, 0x31, 0x3d])?;
     let mut parts = setting.splitn_char(2, '=');
-    assert!(rt; parts.next().is_some_and(|name| name.eq_str("é")));
-    assert!(rt; parts.next().is_some_and(|value| value.eq_str("1=")));
-    assert!(rt; parts.next().is_none());
-    Ok(())
+    let mut holds = parts.next().is_some_and(|name| name.eq_str("é"));
+    holds &= parts.next().is_some_and(|value| value.eq_str("1="));
+    holds &= parts.next().is_none();
+    Ok(holds)
 }
 
-#[test]
-fn example_of_utfstr_split_terminator(rt: HostRuntime) -> Result<(), Fail> {
+fn example_of_utfstr_split_terminator() -> Result<bool, Fail> {
     let list = Utf16Str::from_slice(&[0xe9, 0x3b, 0x3b])?;
     let mut parts = list.split_terminator(Utf16Str::from_slice(&[0x3b])?);
-    assert!(rt; parts.next().is_some_and(|part| part.eq_str("é")));
-    assert!(rt; parts.next().is_some_and(|part| part.is_empty()));
-    assert!(rt; parts.next().is_none());
-    Ok(())
+    let mut holds = parts.next().is_some_and(|part| part.eq_str("é"));
+    holds &= parts.next().is_some_and(|part| part.is_empty());
+    holds &= parts.next().is_none();
+    Ok(holds)
 }
 
-#[test]
-fn example_of_utfstr_split_terminator_char(rt: HostRuntime) -> Result<(), Fail> {
+fn example_of_utfstr_split_terminator_char() -> Result<bool, Fail> {
     let list = Utf16Str::from_slice(&[0xe9, 0x3b, 0x62])?;
     let mut parts = list.split_terminator_char(';');
-    assert!(rt; parts.next().is_some_and(|part| part.eq_str("é")));
-    assert!(rt; parts.next().is_some_and(|part| part.eq_str("b")));
-    assert!(rt; parts.next().is_none());
-    Ok(())
+    let mut holds = parts.next().is_some_and(|part| part.eq_str("é"));
+    holds &= parts.next().is_some_and(|part| part.eq_str("b"));
+    holds &= parts.next().is_none();
+    Ok(holds)
 }
 
-#[test]
-fn example_of_utfstr_rsplit(rt: HostRuntime) -> Result<(), Fail> {
+fn example_of_utfstr_rsplit() -> Result<bool, Fail> {
     let list = Utf16Str::from_slice(&[0xe9, 0x2c, 0x20, 0xd83d, 0xde00])?;
     let mut parts = list.rsplit(Utf16Str::from_slice(&[0x2c, 0x20])?);
-    assert!(rt; parts.next().is_some_and(|part| part.eq_str("😀")));
-    assert!(rt; parts.next().is_some_and(|part| part.eq_str("é")));
-    assert!(rt; parts.next().is_none());
-    Ok(())
+    let mut holds = parts.next().is_some_and(|part| part.eq_str("😀"));
+    holds &= parts.next().is_some_and(|part| part.eq_str("é"));
+    holds &= parts.next().is_none();
+    Ok(holds)
 }
 
-#[test]
-fn example_of_utfstr_rsplit_char(rt: HostRuntime) -> Result<(), Fail> {
+fn example_of_utfstr_rsplit_char() -> Result<bool, Fail> {
     let path = Utf16Str::from_slice(&[0xe9, 0x2f, 0xd83d, 0xde00, 0x2f])?;
     let mut parts = path.rsplit_char('/');
-    assert!(rt; parts.next().is_some_and(|part| part.is_empty()));
-    assert!(rt; parts.next().is_some_and(|part| part.eq_str("😀")));
-    assert!(rt; parts.next().is_some_and(|part| part.eq_str("é")));
-    assert!(rt; parts.next().is_none());
-    Ok(())
+    let mut holds = parts.next().is_some_and(|part| part.is_empty());
+    holds &= parts.next().is_some_and(|part| part.eq_str("😀"));
+    holds &= parts.next().is_some_and(|part| part.eq_str("é"));
+    holds &= parts.next().is_none();
+    Ok(holds)
 }
 
-#[test]
-fn example_of_utfstr_rsplitn(rt: HostRuntime) -> Result<(), Fail> {
+fn example_of_utfstr_rsplitn() -> Result<bool, Fail> {
     let list = Utf16Str::from_slice(&[0xe9, 0x2c, 0x61, 0x2c, 0x62])?;
     let mut parts = list.rsplitn(2, Utf16Str::from_slice(&[0x2c])?);
-    assert!(rt; parts.next().is_some_and(|part| part.eq_str("b")));
-    assert!(rt; parts.next().is_some_and(|part| part.eq_str("é,a")));
-    assert!(rt; parts.next().is_none());
-    Ok(())
+    let mut holds = parts.next().is_some_and(|part| part.eq_str("b"));
+    holds &= parts.next().is_some_and(|part| part.eq_str("é,a"));
+    holds &= parts.next().is_none();
+    Ok(holds)
 }
 
-#[test]
-fn example_of_utfstr_rsplitn_char(rt: HostRuntime) -> Result<(), Fail> {
+fn example_of_utfstr_rsplitn_char() -> Result<bool, Fail> {
     let name = Utf16Str::from_slice(&[0xe9, 0x2e, 0x61, 0x2e, 0x62])?;
     let mut parts = name.rsplitn_char(2, '.');
-    assert!(rt; parts.next().is_some_and(|part| part.eq_str("b")));
-    assert!(rt; parts.next().is_some_and(|part| part.eq_str("é.a")));
-    assert!(rt; parts.next().is_none());
-    Ok(())
+    let mut holds = parts.next().is_some_and(|part| part.eq_str("b"));
+    holds &= parts.next().is_some_and(|part| part.eq_str("é.a"));
+    holds &= parts.next().is_none();
+    Ok(holds)
 }
 
-#[test]
-fn example_of_utfstr_split_inclusive(rt: HostRuntime) -> Result<(), Fail> {
+fn example_of_utfstr_split_inclusive() -> Result<bool, Fail> {
     let list = Utf16Str::from_slice(&[0xe9, 0x2c, 0x20, 0xd83d, 0xde00])?;
     let mut parts = list.split_inclusive(Utf16Str::from_slice(&[0x2c, 0x20])?);
-    assert!(rt; parts.next().is_some_and(|part| part.eq_str("é, ")));
-    assert!(rt; parts.next().is_some_and(|part| part.eq_str("😀")));
-    assert!(rt; parts.next().is_none());
-    Ok(())
+    let mut holds = parts.next().is_some_and(|part| part.eq_str("é, "));
+    holds &= parts.next().is_some_and(|part| part.eq_str("😀"));
+    holds &= parts.next().is_none();
+    Ok(holds)
 }
 
-#[test]
-fn example_of_utfstr_split_inclusive_char(rt: HostRuntime) -> Result<(), Fail> {
+fn example_of_utfstr_split_inclusive_char() -> Result<bool, Fail> {
     let lines = Utf16Str::from_slice(&[0xe9, 0xa, 0xd83d, 0xde00, 0xa])?;
     let mut parts = lines.split_inclusive_char('\n');
-    assert!(rt; parts.next().is_some_and(|part| part.eq_str("é\n")));
-    assert!(rt; parts.next().is_some_and(|part| part.eq_str("😀\n")));
-    assert!(rt; parts.next().is_none());
-    Ok(())
+    let mut holds = parts.next().is_some_and(|part| part.eq_str("é\n"));
+    holds &= parts.next().is_some_and(|part| part.eq_str("😀\n"));
+    holds &= parts.next().is_none();
+    Ok(holds)
 }
 
-#[test]
-fn example_of_escapeunicode(rt: HostRuntime) -> Result<(), Fail> {
+fn example_of_escapeunicode(rt: &HostRuntime) -> Result<bool, Fail> {
     let escaped = Utf16Str::from_slice(&[0x48, 0xd83d, 0xde00])?.escape_unicode();
     let text = escaped.to_string(rt.alloc())?;
-    assert!(rt; text.as_str() == "\\u{48}\\u{1f600}");
-    Ok(())
+    Ok(text.as_str() == "\\u{48}\\u{1f600}")
 }
 
-#[test]
-fn example_of_escapedefault(rt: HostRuntime) -> Result<(), Fail> {
+fn example_of_escapedefault(rt: &HostRuntime) -> Result<bool, Fail> {
     let escaped = Utf16Str::from_slice(&[0x22, 0xe9, 0x22])?.escape_default();
     let text = escaped.to_string(rt.alloc())?;
-    assert!(rt; text.as_str() == "\\\"\\u{e9}\\\"");
-    Ok(())
+    Ok(text.as_str() == "\\\"\\u{e9}\\\"")
 }
 
-#[test]
-fn example_of_escapedebug(rt: HostRuntime) -> Result<(), Fail> {
+fn example_of_escapedebug(rt: &HostRuntime) -> Result<bool, Fail> {
     let escaped = Utf16Str::from_slice(&[0xe9, 0x9, 0])?.escape_debug();
     let text = escaped.to_string(rt.alloc())?;
-    assert!(rt; text.as_str() == "é\\t\\0");
-    Ok(())
+    Ok(text.as_str() == "é\\t\\0")
 }
 
-#[test]
-fn example_of_chars(rt: HostRuntime) -> Result<(), Fail> {
+fn example_of_chars(rt: &HostRuntime) -> Result<bool, Fail> {
     let mut rest = Utf16Str::from_slice(&[0x48, 0x69, 0xd83d, 0xde00])?.chars();
-    assert!(rt; rest.next() == Some('H'));
+    let mut holds = rest.next() == Some('H');
     let text = rest.to_string(rt.alloc())?;
-    assert!(rt; text.as_str() == "i😀");
-    Ok(())
+    holds &= text.as_str() == "i😀";
+    Ok(holds)
 }
 
-#[test]
-fn example_of_ustrinutfstr(rt: HostRuntime) -> Result<(), Fail> {
+fn example_of_ustrinutfstr() -> Result<bool, Fail> {
     let text = Utf16Str::from_slice(&[0x48, 0x69])?;
-    assert!(rt; U16Str::from_slice(&[0x48, 0x69]).eq_utfstr(text));
-    assert!(rt; !U16Str::from_slice(&[0x48, 0xd83d]).eq_utfstr(text));
-    Ok(())
+    let mut holds = U16Str::from_slice(&[0x48, 0x69]).eq_utfstr(text);
+    holds &= !U16Str::from_slice(&[0x48, 0xd83d]).eq_utfstr(text);
+    Ok(holds)
 }
 
-#[test]
-fn example_of_ucstrinutfstr(rt: HostRuntime) -> Result<(), Fail> {
+fn example_of_ucstrinutfstr() -> Result<bool, Fail> {
     let name = U16CStr::from_slice(&[0x48, 0x69, 0])?;
-    assert!(rt; name.eq_utfstr(Utf16Str::from_slice(&[0x48, 0x69])?));
-    Ok(())
+    Ok(name.eq_utfstr(Utf16Str::from_slice(&[0x48, 0x69])?))
 }
 
-#[test]
-fn example_of_charindices(rt: HostRuntime) -> Result<(), Fail> {
+fn example_of_charindices() -> Result<bool, Fail> {
     let mut characters = Utf16Str::from_slice(&[0xd83d, 0xde00, 0x48, 0x69])?.char_indices();
-    assert!(rt; characters.next() == Some((0, '😀')));
-    assert!(rt; characters.offset() == 2);
-    assert!(rt; characters.next_back() == Some((3, 'i')));
-    Ok(())
+    let mut holds = characters.next() == Some((0, '😀'));
+    holds &= characters.offset() == 2;
+    holds &= characters.next_back() == Some((3, 'i'));
+    Ok(holds)
 }
 
-#[test]
-fn example_of_codeunits(rt: HostRuntime) -> Result<(), Fail> {
+fn example_of_codeunits() -> Result<bool, Fail> {
     let mut units = Utf16Str::from_slice(&[0x48, 0xd83d, 0xde00])?.code_units();
-    assert!(rt; units.len() == 3);
-    assert!(rt; units.next_back() == Some(0xde00));
-    Ok(())
+    let mut holds = units.len() == 3;
+    holds &= units.next_back() == Some(0xde00);
+    Ok(holds)
+}
+
+// Returns whether the examples of this module hold.
+pub(crate) fn hold(rt: &HostRuntime) -> bool {
+    let mut all = holds(rt, "UtfStr", example_of_utfstr());
+    all &= holds(
+        rt,
+        "UtfStr::is_char_boundary",
+        example_of_utfstr_is_char_boundary(),
+    );
+    all &= holds(rt, "UtfStr::char_count", example_of_utfstr_char_count());
+    all &= holds(rt, "UtfStr::unit_offset", example_of_utfstr_unit_offset());
+    all &= holds(rt, "UtfStr::get", example_of_utfstr_get());
+    all &= holds(rt, "UtfStr::slice", example_of_utfstr_slice());
+    all &= holds(rt, "UtfStr::split_at", example_of_utfstr_split_at());
+    all &= holds(rt, "UtfStr::chars", example_of_utfstr_chars());
+    all &= holds(rt, "UtfStr::char_indices", example_of_utfstr_char_indices());
+    all &= holds(rt, "UtfStr::encode_utf8", example_of_utfstr_encode_utf8());
+    all &= holds(rt, "UtfStr::from_slice", example_of_utfstr_from_slice());
+    all &= holds(rt, "UtfStr::as_ustr", example_of_utfstr_as_ustr());
+    all &= part_2_holds(rt);
+    all &= part_3_holds(rt);
+    all &= part_4_holds(rt);
+    all &= part_5_holds(rt);
+    all &= part_6_holds(rt);
+    all &= part_7_holds(rt);
+    all
+}
+
+fn part_2_holds(rt: &HostRuntime) -> bool {
+    let mut all = holds(rt, "UtfStr::code_units", example_of_utfstr_code_units());
+    all &= holds(rt, "UtfStr::encode_utf32", example_of_utfstr_encode_utf32());
+    all &= holds(rt, "UtfStr::char_at", example_of_utfstr_char_at());
+    all &= holds(rt, "UtfStr::encode_utf16", example_of_utfstr_encode_utf16());
+    all &= holds(rt, "UtfStr::trim_start", example_of_utfstr_trim_start());
+    all &= holds(rt, "UtfStr::trim_end", example_of_utfstr_trim_end());
+    all &= holds(rt, "UtfStr::trim", example_of_utfstr_trim());
+    all &= holds(rt, "UtfStr::lines", example_of_utfstr_lines());
+    all &= holds(rt, "UtfStr::line_indices", example_of_utfstr_line_indices());
+    all &= holds(rt, "UtfStr::starts_with", example_of_utfstr_starts_with());
+    all &= holds(rt, "UtfStr::ends_with", example_of_utfstr_ends_with());
+    all &= holds(rt, "UtfStr::contains", example_of_utfstr_contains());
+    all
+}
+
+fn part_3_holds(rt: &HostRuntime) -> bool {
+    let mut all = holds(rt, "UtfStr::find", example_of_utfstr_find());
+    all &= holds(rt, "UtfStr::rfind", example_of_utfstr_rfind());
+    all &= holds(rt, "UtfStr::find_char", example_of_utfstr_find_char());
+    all &= holds(rt, "UtfStr::strip_prefix", example_of_utfstr_strip_prefix());
+    all &= holds(rt, "UtfStr::strip_suffix", example_of_utfstr_strip_suffix());
+    all &= holds(rt, "UtfStr::split_once", example_of_utfstr_split_once());
+    all &= holds(rt, "UtfStr::rsplit_once", example_of_utfstr_rsplit_once());
+    all &= holds(
+        rt,
+        "UtfStr::floor_char_boundary",
+        example_of_utfstr_floor_char_boundary(),
+    );
+    all &= holds(
+        rt,
+        "UtfStr::ceil_char_boundary",
+        example_of_utfstr_ceil_char_boundary(),
+    );
+    all &= holds(
+        rt,
+        "UtfStr::escape_unicode",
+        example_of_utfstr_escape_unicode(rt),
+    );
+    all &= holds(
+        rt,
+        "UtfStr::escape_default",
+        example_of_utfstr_escape_default(rt),
+    );
+    all &= holds(
+        rt,
+        "UtfStr::escape_debug",
+        example_of_utfstr_escape_debug(rt),
+    );
+    all
+}
+
+fn part_4_holds(rt: &HostRuntime) -> bool {
+    let mut all = holds(rt, "UtfStr::is_ascii", example_of_utfstr_is_ascii(rt));
+    all &= holds(
+        rt,
+        "UtfStr::eq_ignore_ascii_case",
+        example_of_utfstr_eq_ignore_ascii_case(rt),
+    );
+    all &= holds(
+        rt,
+        "UtfStr::eq_str_ignore_ascii_case",
+        example_of_utfstr_eq_str_ignore_ascii_case(rt),
+    );
+    all &= holds(
+        rt,
+        "UtfStr::starts_with_ignore_ascii_case",
+        example_of_utfstr_starts_with_ignore_ascii_case(rt),
+    );
+    all &= holds(
+        rt,
+        "UtfStr::ends_with_ignore_ascii_case",
+        example_of_utfstr_ends_with_ignore_ascii_case(rt),
+    );
+    all &= holds(
+        rt,
+        "UtfStr::contains_ignore_ascii_case",
+        example_of_utfstr_contains_ignore_ascii_case(rt),
+    );
+    all &= holds(
+        rt,
+        "UtfStr::find_ignore_ascii_case",
+        example_of_utfstr_find_ignore_ascii_case(rt),
+    );
+    all &= holds(
+        rt,
+        "UtfStr::starts_with_char",
+        example_of_utfstr_starts_with_char(),
+    );
+    all &= holds(
+        rt,
+        "UtfStr::ends_with_char",
+        example_of_utfstr_ends_with_char(),
+    );
+    all &= holds(
+        rt,
+        "UtfStr::strip_prefix_char",
+        example_of_utfstr_strip_prefix_char(),
+    );
+    all &= holds(
+        rt,
+        "UtfStr::strip_suffix_char",
+        example_of_utfstr_strip_suffix_char(),
+    );
+    all &= holds(rt, "UtfStr::find_from", example_of_utfstr_find_from());
+    all
+}
+
+fn part_5_holds(rt: &HostRuntime) -> bool {
+    let mut all = holds(
+        rt,
+        "UtfStr::find_char_from",
+        example_of_utfstr_find_char_from(),
+    );
+    all &= holds(rt, "UtfStr::eq_str", example_of_utfstr_eq_str());
+    all &= holds(
+        rt,
+        "UtfStr::match_indices",
+        example_of_utfstr_match_indices(rt),
+    );
+    all &= holds(
+        rt,
+        "UtfStr::match_indices_char",
+        example_of_utfstr_match_indices_char(),
+    );
+    all &= holds(rt, "UtfStr::matches", example_of_utfstr_matches(rt));
+    all &= holds(rt, "UtfStr::matches_char", example_of_utfstr_matches_char());
+    all &= holds(
+        rt,
+        "UtfStr::cmp_code_points",
+        example_of_utfstr_cmp_code_points(),
+    );
+    all &= holds(rt, "UtfStr::cmp_str", example_of_utfstr_cmp_str());
+    all &= holds(rt, "UtfStr::find_any", example_of_utfstr_find_any());
+    all &= holds(rt, "UtfStr::split_any", example_of_utfstr_split_any());
+    all &= holds(
+        rt,
+        "UtfStr::split_whitespace",
+        example_of_utfstr_split_whitespace(),
+    );
+    all &= holds(
+        rt,
+        "UtfStr::split_ascii_whitespace",
+        example_of_utfstr_split_ascii_whitespace(),
+    );
+    all
+}
+
+fn part_6_holds(rt: &HostRuntime) -> bool {
+    let mut all = holds(
+        rt,
+        "UtfStr::trim_start_matches",
+        example_of_utfstr_trim_start_matches(),
+    );
+    all &= holds(
+        rt,
+        "UtfStr::trim_end_matches",
+        example_of_utfstr_trim_end_matches(),
+    );
+    all &= holds(rt, "UtfStr::trim_matches", example_of_utfstr_trim_matches());
+    all &= holds(rt, "UtfStr::split", example_of_utfstr_split());
+    all &= holds(rt, "UtfStr::split_char", example_of_utfstr_split_char());
+    all &= holds(rt, "UtfStr::splitn", example_of_utfstr_splitn());
+    all &= holds(rt, "UtfStr::splitn_char", example_of_utfstr_splitn_char());
+    all &= holds(
+        rt,
+        "UtfStr::split_terminator",
+        example_of_utfstr_split_terminator(),
+    );
+    all &= holds(
+        rt,
+        "UtfStr::split_terminator_char",
+        example_of_utfstr_split_terminator_char(),
+    );
+    all &= holds(rt, "UtfStr::rsplit", example_of_utfstr_rsplit());
+    all &= holds(rt, "UtfStr::rsplit_char", example_of_utfstr_rsplit_char());
+    all &= holds(rt, "UtfStr::rsplitn", example_of_utfstr_rsplitn());
+    all
+}
+
+fn part_7_holds(rt: &HostRuntime) -> bool {
+    let mut all = holds(rt, "UtfStr::rsplitn_char", example_of_utfstr_rsplitn_char());
+    all &= holds(
+        rt,
+        "UtfStr::split_inclusive",
+        example_of_utfstr_split_inclusive(),
+    );
+    all &= holds(
+        rt,
+        "UtfStr::split_inclusive_char",
+        example_of_utfstr_split_inclusive_char(),
+    );
+    all &= holds(rt, "EscapeUnicode", example_of_escapeunicode(rt));
+    all &= holds(rt, "EscapeDefault", example_of_escapedefault(rt));
+    all &= holds(rt, "EscapeDebug", example_of_escapedebug(rt));
+    all &= holds(rt, "Chars", example_of_chars(rt));
+    all &= holds(rt, "UStrInUtfstr", example_of_ustrinutfstr());
+    all &= holds(rt, "UCStrInUtfstr", example_of_ucstrinutfstr());
+    all &= holds(rt, "CharIndices", example_of_charindices());
+    all &= holds(rt, "CodeUnits", example_of_codeunits());
+    all
 }

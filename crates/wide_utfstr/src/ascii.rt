@@ -75,10 +75,8 @@ impl<C: Unit> UtfStr<'_, C> {
     /// ```
     /// let key = Utf16String::from_str(rt.alloc(), "HKLM\\Größe")?;
     /// let root = Utf16String::from_str(rt.alloc(), "hklm\\g")?;
-    /// assert!(rt;
-    ///     key.as_utfstr()
-    ///         .starts_with_ignore_ascii_case(root.as_utfstr())
-    /// );
+    /// let (key, root) = (key.as_utfstr(), root.as_utfstr());
+    /// assert!(rt; key.starts_with_ignore_ascii_case(root));
     /// ```
     pub fn starts_with_ignore_ascii_case(self, needle: UtfStr<'_, C>) -> bool
         ensures { IsTrue result ↔ BeginsWith (lowercased (numbers_seen C.number needle.entry)) (lowercased (numbers_seen C.number self.entry)) }
@@ -94,10 +92,8 @@ impl<C: Unit> UtfStr<'_, C> {
     /// ```
     /// let file = Utf16String::from_str(rt.alloc(), "Größe.TXT")?;
     /// let extension = Utf16String::from_str(rt.alloc(), ".txt")?;
-    /// assert!(rt;
-    ///     file.as_utfstr()
-    ///         .ends_with_ignore_ascii_case(extension.as_utfstr())
-    /// );
+    /// let (file, extension) = (file.as_utfstr(), extension.as_utfstr());
+    /// assert!(rt; file.ends_with_ignore_ascii_case(extension));
     /// ```
     pub fn ends_with_ignore_ascii_case(self, needle: UtfStr<'_, C>) -> bool
         ensures { IsTrue result ↔ EndsWith (lowercased (numbers_seen C.number needle.entry)) (lowercased (numbers_seen C.number self.entry)) }
@@ -113,10 +109,8 @@ impl<C: Unit> UtfStr<'_, C> {
     /// ```
     /// let name = Utf16String::from_str(rt.alloc(), "Größe.TXT")?;
     /// let part = Utf16String::from_str(rt.alloc(), "E.t")?;
-    /// assert!(rt;
-    ///     name.as_utfstr()
-    ///         .contains_ignore_ascii_case(part.as_utfstr())
-    /// );
+    /// let (name, part) = (name.as_utfstr(), part.as_utfstr());
+    /// assert!(rt; name.contains_ignore_ascii_case(part));
     /// ```
     pub fn contains_ignore_ascii_case(self, needle: UtfStr<'_, C>) -> bool
         ensures { IsTrue result ↔ OccursIn (lowercased (numbers_seen C.number needle.entry)) (lowercased (numbers_seen C.number self.entry)) }
@@ -138,16 +132,9 @@ impl<C: Unit> UtfStr<'_, C> {
     /// ```
     /// let file = Utf16String::from_str(rt.alloc(), "Größe.TXT")?;
     /// let extension = Utf16String::from_str(rt.alloc(), ".txt")?;
-    /// let at = file
-    ///     .as_utfstr()
-    ///     .find_ignore_ascii_case(extension.as_utfstr());
-    /// assert!(rt; at == Some(5));
-    /// assert!(rt;
-    ///     extension
-    ///         .as_utfstr()
-    ///         .find_ignore_ascii_case(file.as_utfstr())
-    ///         .is_none()
-    /// );
+    /// let (file, extension) = (file.as_utfstr(), extension.as_utfstr());
+    /// assert!(rt; file.find_ignore_ascii_case(extension) == Some(5));
+    /// assert!(rt; extension.find_ignore_ascii_case(file).is_none());
     /// ```
     pub fn find_ignore_ascii_case(self, needle: UtfStr<'_, C>) -> Option<usize>
         ensures first { IfSome result (IsFirstAt (lowercased (numbers_seen C.number needle.entry)) (lowercased (numbers_seen C.number self.entry))) }
