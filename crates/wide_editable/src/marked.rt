@@ -8,7 +8,7 @@ ghost use Rattle.wide_edit.specs.Step.{step, reply_data};
 ghost use Rattle.wide_editable.specs.Edited.{CanHold, IsMade, HasReplySpace};
 ghost use Rattle.wide_editable.specs.Indices.{first_index, second_index};
 ghost use Rattle.wide_offset_index.specs.Found.{IsFoundAt};
-ghost use Rattle.wide_offset_index.specs.Counted.{counted, AddsAtMost};
+ghost use Rattle.wide_steps.specs.Counted.{counted, AddsAtMost};
 ghost use Rattle.wide_offset_index.specs.Marks.{index_entry, index_entries, IsEdited, AreMoved};
 ghost use Rattle.wide_editable.specs.Marked.{first_changed, units_after, units_split_off, marked_capacity, marked_units, marked_text, IsMarkedReady};
 ghost use Rattle.wide_offset_index.specs.Passed.{units_put, IsShort, IsFew, entries_left};
@@ -23,8 +23,9 @@ use std::marker::Model;
 use wide_edit::{Edit, Reply};
 use wide_error::OutOfMemory;
 use wide_offset_index::{
-    Range16, Steps, append_missing, count_from, count_if_few, find_from, shift, tick, units_from,
+    Range16, append_missing, count_from, count_if_few, find_from, shift, units_from,
 };
+use wide_steps::{Steps, tick};
 use wide_utfstr::Utf16Str;
 use wide_utfstring::Utf16String;
 

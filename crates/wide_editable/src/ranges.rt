@@ -3,7 +3,7 @@ ghost use Rattle.std.specs.Prelude.{◌≡◌, ◌+◌, ◌≤◌, ◌⊎◌, fa
 ghost use Rattle.wide_forms.specs.EncodingForm.{Utf16};
 ghost use Rattle.wide_forms.specs.Items.{chars};
 ghost use Rattle.wide_edit.specs.Step.{step, is_range};
-ghost use Rattle.wide_offset_index.specs.Counted.{counted, AddsAtMost};
+ghost use Rattle.wide_steps.specs.Counted.{counted, AddsAtMost};
 ghost use Rattle.wide_offset_index.specs.Found.{IsFoundAt, IsFoundRange};
 ghost use Rattle.wide_editable.specs.Marked.{first_changed};
 ghost use Rattle.wide_editable.specs.Indices.{first_index, second_index};
@@ -11,7 +11,8 @@ ghost use Rattle.wide_editable.specs.Replaced.{Replaces, units_at, units_removed
 
 use crate::lookup::{range_at, string_facts};
 use wide_edit::Edit;
-use wide_offset_index::{Range16, Steps, pass_on};
+use wide_offset_index::{Range16, pass_on};
+use wide_steps::Steps;
 use wide_utfstring::Utf16String;
 
 // Returns the empty range at the end of a text of `count` characters.

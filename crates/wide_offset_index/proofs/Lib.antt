@@ -5,4 +5,3 @@ pub mod Neighbors
 pub mod Substrings
 pub mod Passes
 pub mod Few
-pub mod Walks

@@ -5,7 +5,7 @@ use Rattle.wide_forms.specs.EncodingForm.{Utf16}
 use Rattle.wide_forms.specs.Items.{chars, IsWellFormed}
 use Rattle.wide_offset_index.specs.Marks.{IsEdited}
 use Rattle.wide_offset_index.specs.Passed.{units_put, AddsPassed}
-use Rattle.wide_offset_index.specs.declared.counting.Steps.{Steps}
+use Rattle.wide_steps.specs.declared.counting.Steps.{Steps}
 use Rattle.wide_offset_index.specs.declared.shifting.Range16.{Range16}
 use Rattle.wide_offset_index.proofs.Lengths.{size-take}
 use Rattle.wide_offset_index.proofs.Marking.{whole-size}

@@ -1,4 +1,3 @@
-pub mod Counted
 pub mod Found
 pub mod Marks
 pub mod Passed

@@ -2,9 +2,9 @@
 use Rattle.std.specs.Prelude.{◌≡◌, ℕ, ◌+◌, ◌-◌, ◌*◌, ◌/◌, ◌<◌, ◌≤◌, List, length, min}
 use Rattle.wide_forms.specs.EncodingForm.{Utf16}
 use Rattle.wide_forms.specs.Items.{chars}
-use Rattle.wide_offset_index.specs.Counted.{counted}
+use Rattle.wide_steps.specs.Counted.{counted}
 use Rattle.wide_offset_index.specs.Marks.{offset}
-use Rattle.wide_offset_index.specs.declared.counting.Steps.{Steps}
+use Rattle.wide_steps.specs.declared.counting.Steps.{Steps}
 use Rattle.wide_offset_index.specs.declared.shifting.Range16.{Range16}
 
 -- How many units an edit put in place of those of a range, if the text had `units` units before and has `us` now.

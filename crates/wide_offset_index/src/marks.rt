@@ -7,13 +7,12 @@ ghost use Rattle.wide_forms.specs.EncodingForm.{Utf16, encode};
 ghost use Rattle.wide_forms.specs.Items.{chars};
 ghost use Rattle.wide_utfstr.specs.View.{units_seen};
 ghost use Rattle.wide_utfstr.specs.Iter.{chars_left};
-ghost use Rattle.wide_offset_index.specs.Counted.{counted, AddsAtMost};
+ghost use Rattle.wide_steps.specs.Counted.{counted, AddsAtMost};
 ghost use Rattle.wide_offset_index.specs.Found.{IsFoundAt};
 ghost use Rattle.wide_offset_index.specs.Marks.{index_entry, index_entries};
 
-use crate::counting::Steps;
-use crate::ticking::tick;
 use wide_unit::Unit;
+use wide_steps::{Steps, tick};
 use wide_utfstr::{CharsUtf16, Utf16Str};
 
 // Returns the unit offset of entry number `number`, or 0 for number 0, and the characters from there on. The given

@@ -5,12 +5,11 @@ ghost use Rattle.std.specs.Prelude.{◌≡◌, ◌+◌, ◌-◌, ◌*◌, ◌<�
 ghost use Rattle.wide_forms.specs.EncodingForm.{Utf16};
 ghost use Rattle.wide_forms.specs.Items.{chars};
 ghost use Rattle.wide_utfstr.specs.View.{units_seen};
-ghost use Rattle.wide_offset_index.specs.Counted.{counted, AddsAtMost};
+ghost use Rattle.wide_steps.specs.Counted.{counted, AddsAtMost};
 ghost use Rattle.wide_offset_index.specs.Marks.{offset};
 ghost use Rattle.wide_offset_index.specs.Passed.{AddsPassed};
 
-use crate::counting::Steps;
-use crate::ticking::tick;
+use wide_steps::{Steps, tick};
 use wide_utfstr::Utf16Str;
 
 // Returns how many units the character at an offset has. The next one begins one unit further on, or two.

@@ -5,13 +5,12 @@ ghost use Rattle.std.specs.List.{range_with_len};
 ghost use Rattle.wide_forms.specs.EncodingForm.{Utf16};
 ghost use Rattle.wide_forms.specs.Items.{chars};
 ghost use Rattle.wide_utfstr.specs.View.{units_seen};
-ghost use Rattle.wide_offset_index.specs.Counted.{counted, AddsAtMost};
+ghost use Rattle.wide_steps.specs.Counted.{counted, AddsAtMost};
 ghost use Rattle.wide_offset_index.specs.Marks.{offset, index_entry, index_entries, IsEdited, AreMoved};
 ghost use Rattle.wide_offset_index.specs.Passed.{units_put, IsShort, IsFew, entries_left, AddsMoved};
 
-use crate::counting::Steps;
 use crate::passing::{between, pass_back, pass_on};
-use crate::ticking::tick;
+use wide_steps::{Steps, tick};
 use wide_utfstr::Utf16Str;
 
 // If an edit removes or adds more characters than this, the entries after them are computed again. An entry moves by at

@@ -3,6 +3,8 @@ pub mod Texts
 mod PairLanes
 mod Ranges
 mod Probing
+mod Spent
+mod Wasted
 mod Suffixes
 mod Cuts
 mod Orders

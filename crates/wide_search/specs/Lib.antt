@@ -9,3 +9,4 @@ pub mod Probes
 pub mod Factorizations
 pub mod NextOccurrences
 pub mod Sets
+pub mod Costs

@@ -10,6 +10,7 @@ use crate::needle::{Few, Needle};
 use crate::one::{find_one, rfind_one};
 use crate::search::find_in;
 use crate::search_back::rfind_in;
+use wide_steps::Steps;
 use wide_unit::Unit;
 
 /// Returns whether the units begin with those of the character. The units may be ill-formed. A surrogate of a pair is no
@@ -44,7 +45,7 @@ pub fn find_char<C: Unit>(units: &[C], c: char) -> Option<usize>
     let few = Few::of_char(c);
     match few.second {
         None => find_one(units, few.first),
-        Some(_) => find_in(units, few),
+        Some(_) => find_in(units, few, &mut Steps::new()),
     }
 }
 
@@ -76,6 +77,6 @@ pub fn rfind_char<C: Unit>(units: &[C], c: char) -> Option<usize>
     let few = Few::of_char(c);
     match few.second {
         None => rfind_one(units, few.first),
-        Some(_) => rfind_in(units, few),
+        Some(_) => rfind_in(units, few, &mut Steps::new()),
     }
 }

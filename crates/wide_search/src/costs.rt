@@ -2,6 +2,9 @@
 //! which method follows from that. A try that fails is paid from a credit, and units that are compared in vain are
 //! counted. This affects only how long a search takes, never what it finds.
 
+ghost use Rattle.std.specs.Prelude.{◌≡◌, ◌+◌, ◌*◌, ◌<◌, ◌≤◌, ◌^◌, ◌-◌, true, false};
+ghost use Rattle.wide_search.specs.Costs.{is_two_way, is_plain};
+
 use crate::limits::{
     COMPARED_PER_OFFSET, COMPARED_PER_TRY, DENSE_GAP, DENSE_TRIES_ON_CREDIT,
     FIRST_TRIES_ONE_BY_ONE, GAPS_PER_TRY, LEAST_COUNTED, LEAST_LONG_DISTANCE, LEAST_SPARSE_GAP,
@@ -25,8 +28,8 @@ pub(crate) enum Turn {
 // What a search by two units has spent on tries that failed.
 #[derive(Clone, Copy)]
 pub(crate) struct Costs {
-    // How many units were compared in vain.
-    wasted: usize,
+    // How many units were compared in vain, but for tries at which few were.
+    pub(crate) wasted: usize,
     // What is left of the credit for tries. Each offset that is passed over restores one.
     credit: usize,
     // The greatest value of the credit.
@@ -40,7 +43,9 @@ pub(crate) struct Costs {
 impl Costs {
     // Returns the costs before the first try, where the needle's first unit occurs once in `gap` units. From the back
     // that is not known, and the gap is 0.
-    pub(crate) fn new(gap: usize) -> Self {
+    pub(crate) fn new(gap: usize) -> Self
+        ensures { result.wasted ≡ 0 }
+    {
         let (price, count) = if gap < DENSE_GAP {
             (OFFSETS_PER_DENSE_TRY, DENSE_TRIES_ON_CREDIT)
         } else {
@@ -58,7 +63,10 @@ impl Costs {
 
     // Returns the costs after a try at which `matched` units matched, when `passed` offsets had been passed over since
     // the try before.
-    pub(crate) fn after_try(self, passed: usize, matched: usize) -> Self {
+    pub(crate) fn after_try(self, passed: usize, matched: usize) -> Self
+        ensures grows { self.wasted ≤ result.wasted }
+        ensures counts { result.wasted < 2 ^ 64 - 1 → self.wasted + matched ≤ result.wasted + 3 }
+    {
         let wasted = if matched < LEAST_COUNTED {
             0
         } else {
@@ -81,7 +89,10 @@ impl Costs {
     // Returns the costs after `tried` offsets were tried one by one, at which `matched` units matched. The credit then
     // pays for one more try. The next time, twice as many offsets are tried, unless `after_try` resets their number
     // because the next pair is far.
-    pub(crate) fn after_tries(self, tried: usize, matched: usize) -> Self {
+    pub(crate) fn after_tries(self, tried: usize, matched: usize) -> Self
+        ensures grows { self.wasted ≤ result.wasted }
+        ensures counts { result.wasted < 2 ^ 64 - 1 → self.wasted + matched ≤ result.wasted + 4 * tried }
+    {
         let wasted = if matched / LEAST_COUNTED < tried {
             0
         } else {
@@ -104,7 +115,10 @@ impl Costs {
     // offsets in less time, its factorization of the needle included. If the credit is spent, tries at the first unit
     // take less time, unless the needle is long, or tries at each offset where that unit occurs nearly everywhere or
     // the needle repeats itself.
-    pub(crate) fn turn(self, passed: usize, distance: usize, gap: usize) -> Turn {
+    pub(crate) fn turn(self, passed: usize, distance: usize, gap: usize) -> Turn
+        ensures wasted { is_two_way result ≡ false → self.wasted ≤ 16 * (passed + 4 * distance + 4) }
+        ensures plain { is_plain result ≡ true → distance < 512 }
+    {
         let saved = (self.wasted / COMPARED_PER_OFFSET).saturating_sub(passed);
         if saved / OFFSETS_PER_FACTORED > distance {
             return Turn::TwoWay;

@@ -2,13 +2,15 @@
 //! units (M. Crochemore and D. Perrin, "Two-way string-matching"). It takes time that is linear in the needle, and
 //! constant memory.
 
-ghost use Rattle.std.specs.Prelude.{◌≡◌, ◌↔◌, ◌<◌, ◌+◌, ◌≤◌, IsTrue, length, map};
+ghost use Rattle.std.specs.Prelude.{◌≡◌, ◌↔◌, ◌<◌, ◌+◌, ◌*◌, ◌≤◌, IsTrue, length, map};
 ghost use Rattle.std.specs.Str.Critical.{IsRepeat, IsSuffixAt};
 ghost use Rattle.std.specs.Str.TwoWay.{item_from};
 ghost use Rattle.wide_search.specs.Factorizations.{IsFactorization, Precedes};
 ghost use Rattle.wide_search.specs.NextOccurrences.{number_read};
+ghost use Rattle.wide_steps.specs.Counted.{AddsAtMost};
 
 use crate::side::Side;
+use wide_steps::{Steps, tick};
 use wide_unit::Unit;
 
 // The two parts of a needle: its units before an index, and its units from there on.
@@ -45,16 +47,18 @@ fn precedes(number: u32, other: u32, reversed: bool) -> bool
 // Returns the greatest suffix of a needle in an order of the units. A suffix is less than another that begins with it.
 //
 // The suffix from `start` on is the greatest of those that start before `other`. Its first `matched` units are those
-// from `other` on, which is a whole number of periods later.
-fn greatest_suffix<C: Unit, S: Side>(needle: &[C], reversed: bool) -> Suffix
+// from `other` on, which is a whole number of periods later. It counts each comparison of two units.
+fn greatest_suffix<C: Unit, S: Side>(needle: &[C], reversed: bool, steps: &mut Steps) -> Suffix
     requires { 0 < length needle.now }
-    ensures { IsSuffixAt (Precedes reversed) (item_from S.BACK (length needle.now) (map (number_read S.READ C.number) needle.now)) (length needle.now) result.start result.period }
+    ensures steps { AddsAtMost steps.old steps.new (2 * length needle.now) }
+    ensures suffix { IsSuffixAt (Precedes reversed) (item_from S.BACK (length needle.now) (map (number_read S.READ C.number) needle.now)) (length needle.now) result.start result.period }
 {
     let mut start = 0;
     let mut other = 1;
     let mut matched = 0;
     let mut period = 1;
     while other + matched < needle.len() {
+        tick(steps, 1);
         let ours = S::unit(needle, start + matched);
         let theirs = S::unit(needle, other + matched);
         if precedes(theirs, ours, reversed) {
@@ -77,12 +81,14 @@ fn greatest_suffix<C: Unit, S: Side>(needle: &[C], reversed: bool) -> Suffix
 }
 
 // Returns whether each of the last `period` units before the cut, or each of all if there are fewer, equals the unit a
-// period after it.
-fn repeats_at<C: Unit, S: Side>(needle: &[C], cut: usize, period: usize) -> bool
+// period after it. It counts each comparison.
+fn repeats_at<C: Unit, S: Side>(needle: &[C], cut: usize, period: usize, steps: &mut Steps) -> bool
     requires { cut + period ≤ length needle.now }
-    ensures { IsTrue result ↔ IsRepeat (item_from S.BACK (length needle.now) (map (number_read S.READ C.number) needle.now)) (length needle.now) cut period }
+    ensures steps { AddsAtMost steps.old steps.new cut }
+    ensures repeats { IsTrue result ↔ IsRepeat (item_from S.BACK (length needle.now) (map (number_read S.READ C.number) needle.now)) (length needle.now) cut period }
 {
     for index in cut.saturating_sub(period)..cut {
+        tick(steps, 1);
         if S::unit(needle, index) != S::unit(needle, index + period) {
             return false;
         }
@@ -91,13 +97,14 @@ fn repeats_at<C: Unit, S: Side>(needle: &[C], cut: usize, period: usize) -> bool
 }
 
 // Returns the two parts of a needle: it is cut where the later of its two greatest suffixes starts, in the order of the
-// units and in the reversed order.
-pub(crate) fn factorize<C: Unit, S: Side>(needle: &[C]) -> Factorization
+// units and in the reversed order. It counts the comparisons.
+pub(crate) fn factorize<C: Unit, S: Side>(needle: &[C], steps: &mut Steps) -> Factorization
     requires { 0 < length needle.now }
-    ensures { IsFactorization (item_from S.BACK (length needle.now) (map (number_read S.READ C.number) needle.now)) (length needle.now) result }
+    ensures steps { AddsAtMost steps.old steps.new (5 * length needle.now) }
+    ensures parts { IsFactorization (item_from S.BACK (length needle.now) (map (number_read S.READ C.number) needle.now)) (length needle.now) result }
 {
-    let ascending = greatest_suffix::<C, S>(needle, false);
-    let descending = greatest_suffix::<C, S>(needle, true);
+    let ascending = greatest_suffix::<C, S>(needle, false, steps);
+    let descending = greatest_suffix::<C, S>(needle, true, steps);
     let later = if ascending.start < descending.start {
         descending
     } else {
@@ -106,6 +113,6 @@ pub(crate) fn factorize<C: Unit, S: Side>(needle: &[C]) -> Factorization
     Factorization {
         cut: later.start,
         period: later.period,
-        repeats: repeats_at::<C, S>(needle, later.start, later.period),
+        repeats: repeats_at::<C, S>(needle, later.start, later.period, steps),
     }
 }

@@ -50,10 +50,11 @@ mod units;
 pub use char_set::{AsciiWhiteSpace, CharSet, WhiteSpace};
 pub use chars::{ends_with_char, find_char, find_char_from, rfind_char, starts_with_char};
 pub use ignoring_case::{
-    ends_with_ignore_ascii_case, find_ignore_ascii_case, starts_with_ignore_ascii_case,
+    ends_with_ignore_ascii_case, find_ignore_ascii_case, find_ignore_ascii_case_counted,
+    starts_with_ignore_ascii_case,
 };
 pub use sets::{find_in_set, prefix_of_set, suffix_of_set};
 pub use units::{
-    ends_with, find, find_from, find_unit, rfind, rfind_unit, rsplit_once, split_once, starts_with,
-    strip_prefix, strip_suffix,
+    ends_with, find, find_counted, find_from, find_unit, rfind, rfind_counted, rfind_unit,
+    rsplit_once, split_once, starts_with, strip_prefix, strip_suffix,
 };

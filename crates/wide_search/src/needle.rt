@@ -1,15 +1,17 @@
 //! Needles of a search: a slice of units, or the one or two units of a character. A needle reports whether units begin
 //! with it, and how many of its units match. `comparisons.rt` compares units one by one, and `wide_unit` in SIMD lanes.
 
-ghost use Rattle.std.specs.Prelude.{◌≡◌, ◌↔◌, ◌≤◌, ◌∷◌, [], ℕ, List, length, map, take, IfSome, IsTrue, MatchOption};
+ghost use Rattle.std.specs.Prelude.{◌≡◌, ◌↔◌, ◌+◌, ◌<◌, ◌≤◌, ◌∷◌, [], ℕ, List, length, map, take, IfSome, IfNone, IsTrue, MatchOption};
 ghost use Rattle.wide_forms.specs.EncodingForm.{code_units};
 ghost use Rattle.wide_search.specs.Occurrences.{OccursAt};
 ghost use Rattle.wide_search.specs.Probes.{IsProbe};
 ghost use Rattle.wide_search.specs.Sought.{units_of_few};
+ghost use Rattle.wide_steps.specs.Counted.{counted, AddsAtMost};
 
 use crate::comparisons::{
     COMPARED_BEFORE_BLOCKS, are_same_after_first, are_same_from_first, near_prefix, shared_prefix,
 };
+use wide_steps::{Steps, tick};
 use wide_unit::{Unit, common_prefix};
 
 // The first and the last unit of a needle, and how many units the last one is from the first.
@@ -66,7 +68,55 @@ pub(crate) trait Needle<C: Unit>: Copy {
 
     // Returns the units if the needle is a slice, and `None` if it is one or two units.
     fn as_slice(&self) -> Option<&[C]>
-        ensures { IfSome result (λ units. units.now ≡ sought self.now) };
+        ensures slice { IfSome result (λ units. units.now ≡ sought self.now) }
+        ensures few { IfNone result (length (sought self.now) ≤ 2) };
+}
+
+// Returns whether the units begin with the needle. It counts a step for each unit of the needle.
+#[inline(always)]
+pub(crate) fn begins_with<C: Unit, P: Needle<C>>(needle: P, units: &[C], steps: &mut Steps) -> bool
+    ensures steps { counted steps.new ≡ counted steps.old + length (P.sought needle) }
+    ensures begins { IsTrue result ↔ OccursAt (P.sought needle) units.now 0 }
+{
+    tick(steps, needle.len());
+    needle.is_prefix_of(units)
+}
+
+// Returns whether the units begin with the needle, given that their first unit is the needle's first unit. It counts a
+// step for each unit of the needle, unless there are fewer units.
+#[inline(always)]
+pub(crate) fn begins_after_first<C: Unit, P: Needle<C>>(
+    needle: P,
+    units: &[C],
+    steps: &mut Steps,
+) -> bool
+    requires { take 1 (P.sought needle) ≡ take 1 units.now }
+    ensures steps { AddsAtMost steps.old steps.new (length (P.sought needle)) }
+    ensures short { length units.now < length (P.sought needle) → counted steps.new ≡ counted steps.old }
+    ensures begins { IsTrue result ↔ OccursAt (P.sought needle) units.now 0 }
+{
+    if units.len() >= needle.len() {
+        tick(steps, needle.len());
+    }
+    needle.is_prefix_after_first(units)
+}
+
+// The greatest number of units that a call of `Needle::matched_in_blocks` compares beside those that match: eight that
+// it compares one by one before, and a block.
+const COMPARED_BESIDE: usize = 24;
+
+// Returns how many units at the beginning are those of the needle, up to the first that differs. It counts a step for
+// each unit that is compared.
+#[inline(always)]
+pub(crate) fn matched<C: Unit, P: Needle<C>>(needle: P, units: &[C], steps: &mut Steps) -> usize
+    ensures steps { counted steps.new ≡ counted steps.old + result + 24 }
+    ensures within { result ≤ length (P.sought needle) }
+    ensures whole { OccursAt (P.sought needle) units.now 0 ↔ (result ≡ length (P.sought needle)) }
+{
+    let matched = needle.matched_in_blocks(units);
+    tick(steps, matched);
+    tick(steps, COMPARED_BESIDE);
+    matched
 }
 
 // A needle that is a slice.

@@ -8,6 +8,7 @@ ghost use Rattle.wide_search.specs.Occurrences.{IsFirstAt, IsLastAt, OccursNowhe
 use crate::limits::{SHORT_TEXT, TRIES_FROM_BACK};
 use crate::needle::Few;
 use crate::search_back::rfind_by_two;
+use wide_steps::Steps;
 use wide_unit::{Unit, first_of};
 
 // Returns the offset of the first occurrence of the unit, or `None`.
@@ -42,5 +43,5 @@ pub(crate) fn rfind_one<C: Unit>(units: &[C], unit: C) -> Option<usize>
         return None;
     }
     // One unit is a needle whose first and last unit are the same, at distance 0.
-    rfind_by_two(units, Few::one(unit), at)
+    rfind_by_two(units, Few::one(unit), at, &mut Steps::new())
 }

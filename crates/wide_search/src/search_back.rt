@@ -2,16 +2,21 @@
 //! which the needle's first and last unit both match, in SIMD lanes (W. Mula, "SIMD-friendly algorithms for substring
 //! searching").
 
-ghost use Rattle.std.specs.Prelude.{◌+◌, ◌-◌, ◌<◌, ◌≤◌, ℕ, List, IfNone, IfSome, IsTrue, length};
+ghost use Rattle.std.specs.Prelude.{◌+◌, ◌-◌, ◌*◌, ◌^◌, ◌<◌, ◌≤◌, ℕ, List, IfNone, IfSome, IsTrue, length};
 ghost use Rattle.wide_search.specs.Occurrences.{IsLastAt, OccursAt, OccursNowhere};
 ghost use Rattle.wide_search.specs.Probes.{IsProbe};
+ghost use Rattle.wide_steps.specs.Counted.{AddsAtMost};
 
 use crate::costs::{Costs, Turn};
 use crate::limits::{LEAST_COUNTED_LEN, MATCHED_PER_NEEDLE_UNIT, SHORT_TEXT, TRIES_FROM_BACK};
-use crate::needle::{Needle, Probe};
+use crate::needle::{Needle, Probe, begins_with, matched};
 use crate::pairs::last_pair;
 use crate::two_way::{Stop, rfind_two_way};
+use wide_steps::{Steps, tick};
 use wide_unit::Unit;
+
+// The greatest number of units that a SIMD block has: so many more than those that decide may be compared.
+const LANES: usize = 16;
 
 // Returns an offset such that no needle with these two units occurs from there on, and before `end`. It is the one
 // after the last at which both match, or 0.
@@ -29,7 +34,8 @@ fn skip_back<C: Unit>(units: &[C], end: usize, probe: Probe<C>) -> usize
 // Searches back from an offset from which on the needle does not occur, offset by offset. It makes `tries` tries, or
 // fewer if it reaches the start of the text or too many units match. `matched` is how many units matched at the last
 // try before the call. Returns where it stopped, which is one more than the needle's offset if it was found, and how
-// many units matched in vain. For a short needle that number is an estimate: `tries` times `matched`.
+// many units matched in vain. For a short needle that number is an estimate: `tries` times `matched`. It counts the
+// comparisons.
 #[inline(never)]
 fn rfind_each<C: Unit, P: Needle<C>>(
     units: &[C],
@@ -37,9 +43,15 @@ fn rfind_each<C: Unit, P: Needle<C>>(
     end: usize,
     tries: usize,
     matched: usize,
+    steps: &mut Steps,
 ) -> (Stop, usize)
     requires within { end + length (P.sought needle) ≤ length units.now + 1 }
     requires beyond { (k : ℕ) → end ≤ k → ¬ (OccursAt (P.sought needle) units.now k) }
+    ensures matched { 16 ≤ length (P.sought needle) → length (P.sought needle) < 2 ^ 57 → result.1 ≤ 65 * length (P.sought needle) }
+    ensures few { length (P.sought needle) < 16 → AddsAtMost steps.old steps.new (16 * (end - result.0.at) + 16) }
+    ensures many { 16 ≤ length (P.sought needle) → length (P.sought needle) < 2 ^ 57 → AddsAtMost steps.old steps.new (3 * (end - result.0.at) + result.1 + length (P.sought needle) + 3) }
+    ensures few_unfound { ¬ (IsTrue result.0.is_found) → length (P.sought needle) < 16 → AddsAtMost steps.old steps.new (16 * (end - result.0.at)) }
+    ensures many_unfound { ¬ (IsTrue result.0.is_found) → 16 ≤ length (P.sought needle) → length (P.sought needle) < 2 ^ 57 → AddsAtMost steps.old steps.new (3 * (end - result.0.at) + result.1) }
     ensures within { result.0.at ≤ end }
     ensures here { IsTrue result.0.is_found → OccursAt (P.sought needle) units.now (result.0.at - 1) × (0 < result.0.at) }
     ensures beyond { (k : ℕ) → result.0.at ≤ k → ¬ (OccursAt (P.sought needle) units.now k) }
@@ -60,16 +72,18 @@ fn rfind_each<C: Unit, P: Needle<C>>(
     while at > last && all_matched <= most {
         let (_, here) = units.split_at(at - 1);
         if is_counted {
+            tick(steps, 3);
             // Fewer than two units that match are not counted.
             if needle.may_be_prefix_of(here) {
                 let matched = needle.matched_one_by_one(here);
+                tick(steps, matched);
                 if matched == needle.len() {
                     return (Stop::found(at), all_matched);
                 }
                 // A sum that wraps would change the time alone.
                 all_matched = all_matched.wrapping_add(matched);
             }
-        } else if needle.is_prefix_of(here) {
+        } else if begins_with(needle, here, steps) {
             return (Stop::found(at), all_matched);
         }
         at -= 1;
@@ -85,9 +99,11 @@ pub(crate) fn rfind_by_two<C: Unit, P: Needle<C>>(
     units: &[C],
     needle: P,
     end: usize,
+    steps: &mut Steps,
 ) -> Option<usize>
     requires within { end + length (P.sought needle) ≤ length units.now + 1 }
     requires beyond { (k : ℕ) → end ≤ k → ¬ (OccursAt (P.sought needle) units.now k) }
+    ensures steps { length units.now < 2 ^ 57 → AddsAtMost steps.old steps.new (60 * end + 150 * length (P.sought needle) + 60) }
     ensures last { IfSome result (IsLastAt (P.sought needle) units.now) }
     ensures none { IfNone result (OccursNowhere (P.sought needle) units.now) }
 {
@@ -97,11 +113,13 @@ pub(crate) fn rfind_by_two<C: Unit, P: Needle<C>>(
     let (mut at, mut since, mut costs) = (end, end, Costs::new(0));
     while at > 0 {
         let found = skip_back(units, at, probe);
+        tick(steps, at - found);
+        tick(steps, LANES);
         if found == 0 {
             return None;
         }
         let (_, here) = units.split_at(found - 1);
-        let matched = needle.matched_in_blocks(here);
+        let matched = matched(needle, here, steps);
         if matched > probe.distance {
             return Some(found - 1);
         }
@@ -110,7 +128,7 @@ pub(crate) fn rfind_by_two<C: Unit, P: Needle<C>>(
         match costs.turn(since - at, probe.distance, 0) {
             Turn::Pairs | Turn::Plain => {}
             Turn::Each => {
-                let (stop, matched) = rfind_each(units, needle, at, costs.tries, matched);
+                let (stop, matched) = rfind_each(units, needle, at, costs.tries, matched, steps);
                 if stop.is_found {
                     return Some(stop.at - 1);
                 }
@@ -118,7 +136,7 @@ pub(crate) fn rfind_by_two<C: Unit, P: Needle<C>>(
             }
             Turn::TwoWay => {
                 if let Some(sought) = needle.as_slice() {
-                    let stop = rfind_two_way(units, sought, at);
+                    let stop = rfind_two_way(units, sought, at, steps);
                     if stop.is_found {
                         return Some(stop.at - 1);
                     }
@@ -134,9 +152,15 @@ pub(crate) fn rfind_by_two<C: Unit, P: Needle<C>>(
 // `None`. The last few offsets are tried one by one, or all if there are few. It is a function of its own, so that
 // `rfind_in` can end with one call, and so saves no register where the needle is found at the first try.
 #[inline(never)]
-fn rfind_rest<C: Unit, P: Needle<C>>(units: &[C], needle: P, last: usize) -> Option<usize>
+fn rfind_rest<C: Unit, P: Needle<C>>(
+    units: &[C],
+    needle: P,
+    last: usize,
+    steps: &mut Steps,
+) -> Option<usize>
     requires within { last + length (P.sought needle) ≤ length units.now }
     requires beyond { (k : ℕ) → last ≤ k → ¬ (OccursAt (P.sought needle) units.now k) }
+    ensures steps { length units.now < 2 ^ 57 → AddsAtMost steps.old steps.new (60 * last + 200 * length (P.sought needle) + 60) }
     ensures last { IfSome result (IsLastAt (P.sought needle) units.now) }
     ensures none { IfNone result (OccursNowhere (P.sought needle) units.now) }
 {
@@ -149,19 +173,24 @@ fn rfind_rest<C: Unit, P: Needle<C>>(units: &[C], needle: P, last: usize) -> Opt
     while at > stop {
         at -= 1;
         let (_, rest) = units.split_at(at);
-        if needle.is_prefix_of(rest) {
+        if begins_with(needle, rest, steps) {
             return Some(at);
         }
     }
     if at == 0 {
         return None;
     }
-    rfind_by_two(units, needle, at)
+    rfind_by_two(units, needle, at, steps)
 }
 
 // Returns the offset of the last occurrence of the needle, or `None`. The last offset is tried first, so that a needle
 // at the end is found without a call of `rfind_rest`.
-pub(crate) fn rfind_in<C: Unit, P: Needle<C>>(units: &[C], needle: P) -> Option<usize>
+pub(crate) fn rfind_in<C: Unit, P: Needle<C>>(
+    units: &[C],
+    needle: P,
+    steps: &mut Steps,
+) -> Option<usize>
+    ensures steps { length units.now < 2 ^ 57 → AddsAtMost steps.old steps.new (60 * length units.now + 201 * length (P.sought needle) + 60) }
     ensures last { IfSome result (IsLastAt (P.sought needle) units.now) }
     ensures none { IfNone result (OccursNowhere (P.sought needle) units.now) }
 {
@@ -170,8 +199,8 @@ pub(crate) fn rfind_in<C: Unit, P: Needle<C>>(units: &[C], needle: P) -> Option<
     }
     let last = units.len() - needle.len();
     let (_, rest) = units.split_at(last);
-    if needle.is_prefix_of(rest) {
+    if begins_with(needle, rest, steps) {
         return Some(last);
     }
-    rfind_rest(units, needle, last)
+    rfind_rest(units, needle, last, steps)
 }

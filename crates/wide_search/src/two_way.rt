@@ -2,18 +2,21 @@
 //! of the units and the needle, in constant memory. It reads each unit by itself, so it is used only where the needle
 //! and the text repeat themselves. What it compares is the number that the side reads, which may be in lower case.
 
-ghost use Rattle.std.specs.Prelude.{◌≡◌, ◌≢◌, ◌+◌, ◌-◌, ◌<◌, ◌≤◌, ℕ, IsTrue, length, map};
+ghost use Rattle.std.specs.Prelude.{◌≡◌, ◌≢◌, ◌+◌, ◌-◌, ◌*◌, ◌<◌, ◌≤◌, ℕ, IsTrue, length, map};
 ghost use Rattle.wide_search.specs.Lowercased.{lowercased};
 ghost use Rattle.wide_search.specs.NextOccurrences.{number_from, number_read, IsStop};
 ghost use Rattle.wide_search.specs.Occurrences.{OccursAt};
+ghost use Rattle.wide_steps.specs.Counted.{counted, AddsAtMost};
 
 use crate::factorization::factorize;
 use crate::limits::{OFFSETS_BEFORE_LOOK, OFFSETS_LOOKED_AHEAD};
 use crate::side::{Back, Front, FrontInLowerCase, Side};
+use wide_steps::{Steps, tick};
 use wide_unit::Unit;
 
 // Returns the first index of the needle, from `from` to before `end`, whose unit differs from that of the text if the
-// needle is at `at`. Returns `end` if there is none. Indices and offsets are counted from the side `S`.
+// needle is at `at`. Returns `end` if there is none. Indices and offsets are counted from the side `S`. It counts a
+// step for each unit that is equal, and one more.
 #[inline(always)]
 fn first_difference<C: Unit, S: Side>(
     units: &[C],
@@ -21,10 +24,12 @@ fn first_difference<C: Unit, S: Side>(
     at: usize,
     from: usize,
     end: usize,
+    steps: &mut Steps,
 ) -> usize
     requires fits { at + length needle.now ≤ length units.now }
     requires within { end ≤ length needle.now }
     requires ordered { from ≤ end }
+    ensures steps { counted steps.new + from ≡ counted steps.old + result + 1 }
     ensures after { from ≤ result }
     ensures within { result ≤ end }
     ensures same { (k : ℕ) → from ≤ k → k < result → number_from S.BACK (number_read S.READ C.number) units.now (at + k) ≡ number_from S.BACK (number_read S.READ C.number) needle.now k }
@@ -32,8 +37,10 @@ fn first_difference<C: Unit, S: Side>(
 {
     let mut index = from;
     while index < end && S::unit(units, at + index) == S::unit(needle, index) {
+        tick(steps, 1);
         index += 1;
     }
+    tick(steps, 1);
     index
 }
 
@@ -73,14 +80,16 @@ impl Stop {
 
 // Returns whether the first and the last unit of the needle both match at one of the next offsets. This affects only
 // how long the search takes: where they do not, the text may no longer repeat itself as the needle does, and other
-// searches take less time.
-fn is_pair_nearby<C: Unit, S: Side>(units: &[C], needle: &[C], at: usize) -> bool
+// searches take less time. It counts two steps for each offset.
+fn is_pair_nearby<C: Unit, S: Side>(units: &[C], needle: &[C], at: usize, steps: &mut Steps) -> bool
     requires some { 0 < length needle.now }
     requires fits { at + length needle.now ≤ length units.now }
+    ensures { AddsAtMost steps.old steps.new 64 }
 {
     let distance = needle.len() - 1;
     let end = (units.len() - distance).min(at.saturating_add(OFFSETS_LOOKED_AHEAD));
     for offset in at..end {
+        tick(steps, 2);
         if S::unit(units, offset) == S::unit(needle, 0)
             && S::unit(units, offset + distance) == S::unit(needle, distance)
         {
@@ -96,13 +105,22 @@ fn is_pair_nearby<C: Unit, S: Side>(units: &[C], needle: &[C], at: usize) -> boo
 // The second part of the needle is compared before the first part. A difference in it rules out as many offsets as
 // units were compared. If only the first part differs, the next offset is at least a period further; if the needle has
 // the period of its second part, the units that it has in common with itself at this distance are not compared again.
+//
+// It counts each comparison of two units, those of the factorization too.
 #[inline(never)]
-fn next_occurrence<C: Unit, S: Side>(units: &[C], needle: &[C], from: usize) -> Stop
+fn next_occurrence<C: Unit, S: Side>(
+    units: &[C],
+    needle: &[C],
+    from: usize,
+    steps: &mut Steps,
+) -> Stop
     requires some { 0 < length needle.now }
     requires within { from ≤ length units.now }
-    ensures { IsStop S.BACK (number_read S.READ C.number) needle.now units.now from result }
+    ensures steps { AddsAtMost steps.old steps.new (6 * (result.at - from) + 6 * length needle.now + 2) }
+    ensures far { ¬ (IsTrue result.is_found) → result.at + length needle.now ≤ length units.now → from + 16 * length needle.now ≤ result.at }
+    ensures stop { IsStop S.BACK (number_read S.READ C.number) needle.now units.now from result }
 {
-    let parts = factorize::<C, S>(needle);
+    let parts = factorize::<C, S>(needle, steps);
     let len = needle.len();
     let stretch = len.saturating_mul(OFFSETS_BEFORE_LOOK);
     let mut stop = from.saturating_add(stretch);
@@ -110,20 +128,21 @@ fn next_occurrence<C: Unit, S: Side>(units: &[C], needle: &[C], from: usize) -> 
     let mut known = 0;
     while len <= units.len() - at {
         if at >= stop {
-            if !is_pair_nearby::<C, S>(units, needle, at) {
+            if !is_pair_nearby::<C, S>(units, needle, at, steps) {
                 break;
             }
             stop = at.saturating_add(stretch);
         }
         let start = parts.cut.max(known);
-        let index = first_difference::<C, S>(units, needle, at, start, len);
+        let index = first_difference::<C, S>(units, needle, at, start, len, steps);
         if index < len {
             at += index - parts.cut + 1;
             known = 0;
             continue;
         }
         let start = parts.cut.min(known);
-        if first_difference::<C, S>(units, needle, at, start, parts.cut) == parts.cut {
+        let first = first_difference::<C, S>(units, needle, at, start, parts.cut, steps);
+        if first == parts.cut {
             return Stop { at, is_found: true };
         }
         if parts.repeats {
@@ -141,44 +160,65 @@ fn next_occurrence<C: Unit, S: Side>(units: &[C], needle: &[C], from: usize) -> 
 }
 
 // Searches on from an offset before which the needle does not occur. Returns where it stopped.
-pub(crate) fn find_two_way<C: Unit>(units: &[C], needle: &[C], from: usize) -> Stop
+pub(crate) fn find_two_way<C: Unit>(
+    units: &[C],
+    needle: &[C],
+    from: usize,
+    steps: &mut Steps,
+) -> Stop
     requires some { 0 < length needle.now }
     requires within { from ≤ length units.now }
     requires before { (k : ℕ) → k < from → ¬ (OccursAt needle.now units.now k) }
+    ensures steps { AddsAtMost steps.old steps.new (6 * (result.at - from) + 6 * length needle.now + 2) }
+    ensures far { ¬ (IsTrue result.is_found) → result.at + length needle.now ≤ length units.now → from + 16 * length needle.now ≤ result.at }
     ensures after { from ≤ result.at }
     ensures within { result.at ≤ length units.now }
     ensures here { IsTrue result.is_found → OccursAt needle.now units.now result.at }
     ensures before { (k : ℕ) → k < result.at → ¬ (OccursAt needle.now units.now k) }
 {
-    next_occurrence::<C, Front>(units, needle, from)
+    next_occurrence::<C, Front>(units, needle, from, steps)
 }
 
 // Searches on from an offset before which the needle does not occur, without regard to the case of ASCII letters.
 // Returns where it stopped.
-pub(crate) fn find_two_way_in_lower_case<C: Unit>(units: &[C], needle: &[C], from: usize) -> Stop
+pub(crate) fn find_two_way_in_lower_case<C: Unit>(
+    units: &[C],
+    needle: &[C],
+    from: usize,
+    steps: &mut Steps,
+) -> Stop
     requires some { 0 < length needle.now }
     requires within { from ≤ length units.now }
     requires before { (k : ℕ) → k < from → ¬ (OccursAt (lowercased (map C.number needle.now)) (lowercased (map C.number units.now)) k) }
+    ensures steps { AddsAtMost steps.old steps.new (6 * (result.at - from) + 6 * length needle.now + 2) }
+    ensures far { ¬ (IsTrue result.is_found) → result.at + length needle.now ≤ length units.now → from + 16 * length needle.now ≤ result.at }
     ensures after { from ≤ result.at }
     ensures within { result.at ≤ length units.now }
     ensures here { IsTrue result.is_found → OccursAt (lowercased (map C.number needle.now)) (lowercased (map C.number units.now)) result.at }
     ensures before { (k : ℕ) → k < result.at → ¬ (OccursAt (lowercased (map C.number needle.now)) (lowercased (map C.number units.now)) k) }
 {
-    next_occurrence::<C, FrontInLowerCase>(units, needle, from)
+    next_occurrence::<C, FrontInLowerCase>(units, needle, from, steps)
 }
 
 // Searches back from an offset from which on the needle does not occur. Returns where it stopped: at the offset after
 // the needle's, if it was found.
-pub(crate) fn rfind_two_way<C: Unit>(units: &[C], needle: &[C], end: usize) -> Stop
+pub(crate) fn rfind_two_way<C: Unit>(
+    units: &[C],
+    needle: &[C],
+    end: usize,
+    steps: &mut Steps,
+) -> Stop
     requires some { 0 < length needle.now }
     requires within { end + length needle.now ≤ length units.now + 1 }
     requires beyond { (k : ℕ) → end ≤ k → ¬ (OccursAt needle.now units.now k) }
+    ensures steps { AddsAtMost steps.old steps.new (6 * (end - result.at) + 12 * length needle.now + 2) }
+    ensures far { ¬ (IsTrue result.is_found) → 0 < result.at → result.at + 16 * length needle.now ≤ end }
     ensures within { result.at ≤ end }
     ensures here { IsTrue result.is_found → OccursAt needle.now units.now (result.at - 1) × (0 < result.at) }
     ensures beyond { (k : ℕ) → result.at ≤ k → ¬ (OccursAt needle.now units.now k) }
 {
     let last = units.len() - (needle.len() - 1);
-    let stop = next_occurrence::<C, Back>(units, needle, last - end);
+    let stop = next_occurrence::<C, Back>(units, needle, last - end, steps);
     Stop {
         at: last.saturating_sub(stop.at),
         is_found: stop.is_found,

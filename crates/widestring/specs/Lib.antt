@@ -85,7 +85,7 @@ pub use Rattle.wide_utfstring.specs.Faults
 pub use Rattle.wide_replace.specs.Replaced
 pub use Rattle.wide_edit.specs.Step
 pub use Rattle.wide_editable.specs.Edited
-pub use Rattle.wide_offset_index.specs.Counted
+pub use Rattle.wide_steps.specs.Counted
 pub use Rattle.wide_offset_index.specs.Marks
 pub use Rattle.wide_editable.specs.Marked
 pub use Rattle.wide_bytes.specs.Bytes

@@ -2,4 +2,4 @@
 
 pub use wide_edit::{Edit, Reply, Stopped};
 pub use wide_editable::{Marked16, TextEdit, run, run_both};
-pub use wide_offset_index::Steps;
+pub use wide_steps::Steps;

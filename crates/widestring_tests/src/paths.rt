@@ -52,10 +52,11 @@ pub mod replace {
 pub mod search {
     pub use widestring::search::{
         AsciiWhiteSpace, CharSet, WhiteSpace, ends_with, ends_with_char,
-        ends_with_ignore_ascii_case, find, find_char, find_char_from, find_from,
-        find_ignore_ascii_case, find_in_set, find_unit, prefix_of_set, rfind, rfind_char,
-        rfind_unit, rsplit_once, split_once, starts_with, starts_with_char,
-        starts_with_ignore_ascii_case, strip_prefix, strip_suffix, suffix_of_set,
+        ends_with_ignore_ascii_case, find, find_char, find_char_from, find_counted, find_from,
+        find_ignore_ascii_case, find_ignore_ascii_case_counted, find_in_set, find_unit,
+        prefix_of_set, rfind, rfind_char, rfind_counted, rfind_unit, rsplit_once, split_once,
+        starts_with, starts_with_char, starts_with_ignore_ascii_case, strip_prefix, strip_suffix,
+        suffix_of_set,
     };
 }
 

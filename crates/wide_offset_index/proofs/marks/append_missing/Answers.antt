@@ -6,7 +6,7 @@ use Rattle.std.proofs.Common.{length-append}
 use Rattle.wide_forms.specs.EncodingForm.{Utf16}
 use Rattle.wide_forms.specs.Items.{chars}
 use Rattle.wide_utfstr.specs.View.{units_seen}
-use Rattle.wide_offset_index.specs.Counted.{counted}
+use Rattle.wide_steps.specs.Counted.{counted}
 use Rattle.wide_offset_index.specs.Marks.{index_entry}
 use Rattle.wide_offset_index.proofs.Lengths.{size}
 use Rattle.wide_offset_index.proofs.Marking.{next_char, some-length, some-marks, well-formed, whole-size, goes-within, none-left}

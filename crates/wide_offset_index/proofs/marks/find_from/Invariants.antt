@@ -3,7 +3,7 @@ use Rattle.wide_forms.specs.EncodingForm.{Utf16, encode}
 use Rattle.wide_forms.specs.Items.{chars}
 use Rattle.wide_utfstr.specs.View.{units_seen}
 use Rattle.wide_utfstr.specs.Iter.{chars_left}
-use Rattle.wide_offset_index.specs.Counted.{counted}
+use Rattle.wide_steps.specs.Counted.{counted}
 use Rattle.wide_offset_index.proofs.marks.find_from.Given as goal
 
 abbrev pub invariant-loop-number : goal.invariant-loop-number

@@ -2,7 +2,7 @@ use Rattle.std.proofs.Common.{◌≡◌, ◌+◌, ◌-◌}
 use Rattle.wide_forms.specs.EncodingForm.{Utf16}
 use Rattle.wide_forms.specs.Items.{chars}
 use Rattle.wide_utfstr.specs.View.{units_seen}
-use Rattle.wide_offset_index.specs.Counted.{counted}
+use Rattle.wide_steps.specs.Counted.{counted}
 use Rattle.wide_offset_index.specs.Marks.{offset}
 use Rattle.wide_offset_index.proofs.passing.pass_back.Given as goal
 

@@ -4,7 +4,7 @@ use Rattle.std.specs.List.{range_with_len}
 use Rattle.wide_forms.specs.EncodingForm.{Utf16}
 use Rattle.wide_forms.specs.Items.{chars}
 use Rattle.wide_utfstr.specs.View.{units_seen}
-use Rattle.wide_offset_index.specs.Counted.{counted}
+use Rattle.wide_steps.specs.Counted.{counted}
 use Rattle.wide_offset_index.specs.Marks.{index_entry}
 use Rattle.wide_offset_index.proofs.shifting.move_entries.Given as goal
 

@@ -1,10 +1,19 @@
-use Rattle.std.proofs.Common.{length, ℕ, ◌-◌, ◌<◌, ◌≤◌}
+use Rattle.std.proofs.Common.{length, ℕ, ◌+◌, ◌-◌, ◌*◌, ◌<◌, ◌≤◌}
 use Rattle.wide_search.specs.Occurrences.{OccursAt}
+use Rattle.wide_steps.specs.Counted.{counted}
+use Rattle.wide_search.proofs.Wasted.{IsPaid}
 use Rattle.wide_search.proofs.search.find_by_two.Given as goal
 
 -- The needle occurs at none of the offsets before `at`.
 abbrev pub invariant-loop-at : goal.invariant-loop-at
-invariant-loop-at g l = (l.from ≤ l.at) × (l.at ≤ length l.units) × ((earlier : ℕ) → earlier < l.at → ¬ (OccursAt (g.P.Needle.sought l.needle) l.units earlier))
+invariant-loop-at g l = record {
+  after : l.from ≤ l.at;
+  within : l.at ≤ length l.units;
+  before : (earlier : ℕ) → earlier < l.at → ¬ (OccursAt (g.P.Needle.sought l.needle) l.units earlier);
+  grows : counted l.fn.steps ≤ counted l.steps;
+  narrow : length (g.P.Needle.sought l.needle) ≤ 512 → counted l.steps ≤ counted l.fn.steps + 600 * (l.at - l.from);
+  wide : length l.units < 144115188075855872 → length (g.P.Needle.sought l.needle) ≤ length l.units → 512 < length (g.P.Needle.sought l.needle) → IsPaid (counted l.fn.steps) (length (g.P.Needle.sought l.needle)) 0 (l.at - l.from) l.costs.wasted (counted l.steps);
+}
 
 abbrev pub decreases-loop-at : goal.decreases-loop-at
 decreases-loop-at g l = length l.units - l.at

@@ -1,4 +1,4 @@
-use Rattle.std.proofs.Common.{rules, ◌≡◌, ◌∷◌, ◌+◌, ◌-◌, length, map, drop, arith}
+use Rattle.std.proofs.Common.{rules, ◌≡◌, ◌∷◌, ◌+◌, ◌-◌, length, map, drop}
 use Rattle.wide_forms.specs.Items.{items}
 use Rattle.wide_forms.specs.Segmentation.{item_units}
 use Rattle.wide_unit.specs.Unit.{item_of}

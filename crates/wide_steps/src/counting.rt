@@ -28,7 +28,7 @@ impl Model for Steps {
 }
 
 impl Steps {
-    ghost use Rattle.wide_offset_index.specs.Counted.{counted};
+    ghost use Rattle.wide_steps.specs.Counted.{counted};
 
     /// Creates a counter of zero steps.
     pub fn new() -> Self

@@ -1,8 +1,8 @@
-use Rattle.wide_offset_index.proofs.Walks.{[], ◌∷◌, refl, proved, ‵, raw, ◌$◌, ◌∵◌, !, qed, drop, suffices, done, enter, agg, no_more, returns, alloc_all, pass_all, free_all, look_at, sets, vstruct, vnil, pure_i, on_entry, Stays, walk_of, says, ends_at, nothing, ftrue}
-use Rattle.wide_offset_index.specs.contracts.counting.Steps.new as f
-use Rattle.wide_offset_index.specs.contracts.counting.Steps.{the_row}
-use Rattle.wide_offset_index.proofs.counting.Steps.new.Statement.{statement}
-use Rattle.wide_offset_index.proofs.counting.Steps.new.Code as code
+use Rattle.wide_steps.proofs.Walks.{[], ◌∷◌, refl, proved, ‵, raw, ◌$◌, ◌∵◌, !, qed, drop, suffices, done, enter, agg, no_more, returns, alloc_all, pass_all, free_all, look_at, sets, vstruct, vnil, pure_i, on_entry, Stays, walk_of, says, ends_at, nothing, ftrue}
+use Rattle.wide_steps.specs.contracts.counting.Steps.new as f
+use Rattle.wide_steps.specs.contracts.counting.Steps.{the_row}
+use Rattle.wide_steps.proofs.counting.Steps.new.Statement.{statement}
+use Rattle.wide_steps.proofs.counting.Steps.new.Code as code
 
 abbrev stayed : Stays f.ended.signature.params f.ended.kept
 stayed = tt

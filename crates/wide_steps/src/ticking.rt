@@ -1,6 +1,6 @@
 //! Steps that are counted.
 ghost use Rattle.std.specs.Prelude.{◌≡◌, ◌+◌};
-ghost use Rattle.wide_offset_index.specs.Counted.{counted};
+ghost use Rattle.wide_steps.specs.Counted.{counted};
 
 use crate::counting::Steps;
 

@@ -1,6 +1,6 @@
 -- The steps that contracts count.
 use Rattle.std.specs.Prelude.{ℕ, ◌+◌, ◌≤◌}
-use Rattle.wide_offset_index.specs.declared.counting.Steps.{Steps}
+use Rattle.wide_steps.specs.declared.counting.Steps.{Steps}
 
 -- The number of steps, without an upper bound.
 abbrev pub counted : Steps → ℕ

@@ -1,9 +1,9 @@
-use Rattle.wide_offset_index.proofs.Walks.{◌+◌, [], ◌∷◌, refl, proved, ‵, raw, ◌$◌, ◌∵◌, !, qed, drop, move, suffices, done, enter, agg, no_more, returns, alloc_all, pass_all, free_all, look_at, sets, vstruct, vnil, named, usize, yes, shr_vals, shr_Tells, plain, types_at, owns, alive, ◌⊛◌, split, pure_i, Stays, walk_of, says, stay_none_ref, Goes-none_ref, ends_at, ftrue}
-use Rattle.wide_offset_index.specs.contracts.counting.Steps.with as f
-use Rattle.wide_offset_index.specs.contracts.counting.Steps.{the_row}
-use Rattle.wide_offset_index.specs.declared.counting.Steps.{Steps}
-use Rattle.wide_offset_index.proofs.counting.Steps.with.Statement.{statement}
-use Rattle.wide_offset_index.proofs.counting.Steps.with.Code as code
+use Rattle.wide_steps.proofs.Walks.{◌+◌, [], ◌∷◌, refl, proved, ‵, raw, ◌$◌, ◌∵◌, !, qed, drop, move, suffices, done, enter, agg, no_more, returns, alloc_all, pass_all, free_all, look_at, sets, vstruct, vnil, named, usize, yes, shr_vals, shr_Tells, plain, types_at, owns, alive, ◌⊛◌, split, pure_i, Stays, walk_of, says, stay_none_ref, Goes-none_ref, ends_at, ftrue}
+use Rattle.wide_steps.specs.contracts.counting.Steps.with as f
+use Rattle.wide_steps.specs.contracts.counting.Steps.{the_row}
+use Rattle.wide_steps.specs.declared.counting.Steps.{Steps}
+use Rattle.wide_steps.proofs.counting.Steps.with.Statement.{statement}
+use Rattle.wide_steps.proofs.counting.Steps.with.Code as code
 
 abbrev stayed : Stays f.ended.signature.params f.ended.kept
 stayed = (stay_none_ref (0 ∷ []) tt (plain (λ _. the_row)) yes, (stay_none_ref (1 ∷ []) tt (plain (λ _. usize)) yes, tt))
