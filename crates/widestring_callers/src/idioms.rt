@@ -148,3 +148,40 @@ pub fn units_of_latin_1(alloc: Global, bytes: &[u8]) -> Result<Vec<u16>, OutOfMe
     let units: Vec<u16> = bytes.iter().map(|byte| u16::from(*byte)).collect(alloc)?;
     Ok(units)
 }
+
+/// Returns the lines of a text, each after its sorting key, in the order of the keys, without regard to ASCII case.
+pub fn sorted_ignoring_case<'a>(
+    alloc: Global,
+    text: Utf16Str<'a>,
+) -> Result<Vec<(Utf16String, Utf16Str<'a>)>, OutOfMemory> {
+    let mut rows: Vec<(Utf16String, Utf16Str<'_>)> = Vec::new(alloc);
+    for line in text.lines() {
+        rows.push((line.to_ascii_lowercase(alloc)?, line))?;
+    }
+    rows.sort_by(|a, b| a.0.as_utfstr().cmp_code_points(b.0.as_utfstr()))?;
+    Ok(rows)
+}
+
+/// Returns how many faults the units have.
+pub fn fault_count(units: U16Str<'_>) -> usize {
+    units.chars().filter(|item| item.is_err()).count()
+}
+
+/// Returns the words of a text in UTF-8, one a line.
+pub fn words_in_lines(alloc: Global, text: Utf16Str<'_>) -> Result<String, OutOfMemory> {
+    let mut lines = String::new(alloc);
+    for word in text.split_whitespace() {
+        lines.push_str(&word.to_string(alloc)?)?;
+        lines.push('\n')?;
+    }
+    Ok(lines)
+}
+
+/// Returns the text as a C string, or `None` if a NUL is in it. A failed allocation is an error.
+pub fn as_c_string(alloc: Global, text: &str) -> Result<Option<U16CString>, OutOfMemory> {
+    match U16CString::from_str(alloc, text) {
+        Ok(string) => Ok(Some(string)),
+        Err(UCStringError::ContainsNul(_fault)) => Ok(None),
+        Err(UCStringError::OutOfMemory(_vector)) => Err(OutOfMemory),
+    }
+}
