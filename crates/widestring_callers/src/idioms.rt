@@ -6,7 +6,7 @@ use widestring::bytes::utf16_of_bytes;
 use widestring::error::{OutOfMemory, UCStringError};
 use widestring::ustring::UStrInUstring;
 use widestring::utfstring::UtfStrInUtfstring;
-use widestring::{U16CString, U16Str, U16String, Utf16Str, Utf16String};
+use widestring::{U16CString, U16Str, U16String, Utf16Str, Utf16String, Utf32String};
 
 /// Returns the lines of a text in the order of their code points.
 pub fn sorted_lines<'a>(
@@ -184,4 +184,43 @@ pub fn as_c_string(alloc: Global, text: &str) -> Result<Option<U16CString>, OutO
         Err(UCStringError::ContainsNul(_fault)) => Ok(None),
         Err(UCStringError::OutOfMemory(_vector)) => Err(OutOfMemory),
     }
+}
+
+/// Returns the index of a name among names that are sorted, or the index at which it would be inserted.
+pub fn index_of_name(names: &Vec<Utf16String>, name: &Utf16String) -> Result<usize, usize> {
+    names.binary_search(name)
+}
+
+/// Returns what follows the first `count` characters of a text, or an empty view if there are not so many.
+pub fn after_characters(text: Utf16Str<'_>, count: usize) -> Option<Utf16Str<'_>> {
+    let mut indices = text.char_indices();
+    for _ in 0..count {
+        if indices.next().is_none() {
+            break;
+        }
+    }
+    text.get(indices.offset()..)
+}
+
+/// Returns the text in UTF-8, after so many spaces that both have eight characters at least.
+pub fn in_column(alloc: Global, text: Utf16Str<'_>) -> Result<String, OutOfMemory> {
+    let text = text.to_string(alloc)?;
+    let column = format!(in alloc; "{text:>8}")?;
+    Ok(column)
+}
+
+/// Returns UTF-32 of units of UTF-16, with U+FFFD for each fault, or `None` if memory runs out.
+pub fn utf_32_of_units(alloc: Global, units: U16Str<'_>) -> Option<Utf32String> {
+    Utf32String::from_iter_chars(alloc, units.chars_lossy()).ok()
+}
+
+/// Returns whether two texts are equal without regard to case.
+pub fn are_equal_without_case(
+    alloc: Global,
+    text: Utf16Str<'_>,
+    other: Utf16Str<'_>,
+) -> Result<bool, OutOfMemory> {
+    let text = text.to_lowercase(alloc)?.as_utfstr().to_uppercase(alloc)?;
+    let other = other.to_lowercase(alloc)?.as_utfstr().to_uppercase(alloc)?;
+    Ok(text == other)
 }
