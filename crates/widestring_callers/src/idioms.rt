@@ -224,3 +224,24 @@ pub fn are_equal_without_case(
     let other = other.to_lowercase(alloc)?.as_utfstr().to_uppercase(alloc)?;
     Ok(text == other)
 }
+
+/// Replaces a range by a text, if both ends of the range are boundaries, and returns whether they are.
+pub fn replace_range_if_whole(
+    text: &mut Utf16String,
+    from: usize,
+    to: usize,
+    with: Utf16Str<'_>,
+) -> Result<bool, OutOfMemory> {
+    if text.as_utfstr().get(from..to).is_none() {
+        return Ok(false);
+    }
+    text.replace_range(from..to, with)?;
+    Ok(true)
+}
+
+/// Returns a text in UTF-32.
+pub fn utf_32_of_text(alloc: Global, text: Utf16Str<'_>) -> Result<Utf32String, OutOfMemory> {
+    let mut wide = Utf32String::new(alloc);
+    wide.extend_chars(text.chars())?;
+    Ok(wide)
+}
