@@ -11,8 +11,8 @@ ghost use Rattle.wide_steps.specs.Counted.{counted, AddsAtMost};
 ghost use Rattle.wide_offset_index.specs.Found.{IsFoundAt};
 ghost use Rattle.wide_offset_index.specs.Marks.{index_entry, index_entries};
 
-use wide_unit::Unit;
 use wide_steps::{Steps, tick};
+use wide_unit::Unit;
 use wide_utfstr::{CharsUtf16, Utf16Str};
 
 // Returns the unit offset of entry number `number`, or 0 for number 0, and the characters from there on. The given
