@@ -1,7 +1,7 @@
 //! The idioms of `CALLING.md` that no other caller has.
 
 use std::alloc::Global;
-use std::collections::HashMap;
+use std::collections::{BTreeMap, HashMap};
 use widestring::bytes::utf16_of_bytes;
 use widestring::error::{OutOfMemory, UCStringError};
 use widestring::ustring::UStrInUstring;
@@ -244,4 +244,33 @@ pub fn utf_32_of_text(alloc: Global, text: Utf16Str<'_>) -> Result<Utf32String, 
     let mut wide = Utf32String::new(alloc);
     wide.extend_chars(text.chars())?;
     Ok(wide)
+}
+
+/// Sorts names by their units.
+pub fn sort_by_units(names: &mut Vec<Utf16String>) -> Result<(), OutOfMemory> {
+    names.sort()?;
+    Ok(())
+}
+
+/// Sorts views by their units, in memory of their own.
+pub fn sort_views(alloc: Global, views: &mut [U16Str<'_>]) -> Result<(), OutOfMemory> {
+    views.sort(alloc)?;
+    Ok(())
+}
+
+/// Sorts views by their units, in place.
+pub fn sort_views_unstable(views: &mut [U16Str<'_>]) {
+    views.sort_unstable();
+}
+
+/// Returns the numbers of names in a map that is sorted by the names' units.
+pub fn numbered(
+    alloc: Global,
+    text: Utf16Str<'_>,
+) -> Result<BTreeMap<Utf16String, usize>, OutOfMemory> {
+    let mut numbers: BTreeMap<Utf16String, usize> = BTreeMap::new(alloc);
+    for (number, line) in text.lines().enumerate() {
+        numbers.insert(line.to_utfstring(alloc)?, number)?;
+    }
+    Ok(numbers)
 }
