@@ -4,6 +4,7 @@ use std::alloc::Global;
 use std::collections::{BTreeMap, HashMap};
 use widestring::bytes::utf16_of_bytes;
 use widestring::error::{OutOfMemory, UCStringError};
+use widestring::replace::UtfStrReplace;
 use widestring::ustring::UStrInUstring;
 use widestring::utfstring::UtfStrInUtfstring;
 use widestring::{U16CString, U16Str, U16String, Utf16Str, Utf16String, Utf32String};
@@ -273,4 +274,63 @@ pub fn numbered(
         numbers.insert(line.to_utfstring(alloc)?, number)?;
     }
     Ok(numbers)
+}
+
+// Returns what follows the first occurrence of a needle, without regard to ASCII case.
+fn after_match<'a>(text: U16Str<'a>, needle: U16Str<'_>) -> Option<U16Str<'a>> {
+    let at = text.find_ignore_ascii_case(needle)?;
+    Some(text.split_at(at + needle.len()).1)
+}
+
+/// Returns how often a needle occurs without overlapping and without regard to ASCII case, if it is not empty.
+pub fn occurrences_ignoring_case(text: U16Str<'_>, needle: U16Str<'_>) -> usize {
+    let mut rest = text;
+    let mut count: usize = 0;
+    for _ in 0..text.len() {
+        let Some(after) = after_match(rest, needle) else {
+            break;
+        };
+        count = count.saturating_add(1);
+        rest = after;
+    }
+    count
+}
+
+/// Returns the line, the column in characters and the unit of each fault. Lines and columns count from 1.
+pub fn places_of_faults(
+    alloc: Global,
+    units: &[u16],
+) -> Result<Vec<(usize, usize, u16)>, OutOfMemory> {
+    let mut places: Vec<(usize, usize, u16)> = Vec::new(alloc);
+    for (number, line) in U16Str::from_slice(units).lines_lossy().enumerate() {
+        for (column, item) in line.chars().enumerate() {
+            if let Err(fault) = item {
+                places.push((number + 1, column + 1, fault.unpaired_surrogate()))?;
+            }
+        }
+    }
+    Ok(places)
+}
+
+/// Returns the length of what is before each character and each fault of a view.
+pub fn lengths_before(alloc: Global, view: U16Str<'_>) -> Result<Vec<usize>, OutOfMemory> {
+    let mut lengths: Vec<usize> = Vec::new(alloc);
+    for (offset, _) in view.char_indices_lossy() {
+        if let Some(before) = view.get(..offset) {
+            lengths.push(before.len())?;
+        }
+    }
+    Ok(lengths)
+}
+
+/// Returns the name of a path after its last separator.
+pub fn name_of_path(path: U16Str<'_>) -> U16Str<'_> {
+    let separators: &[char] = &['\\', '/'];
+    path.split_any(separators).next_back().unwrap_or(path)
+}
+
+/// Returns a copy of a text with CR LF for each line feed.
+pub fn with_cr_lf(alloc: Global, text: Utf16Str<'_>) -> Result<Utf16String, OutOfMemory> {
+    let line_end = Utf16String::from_str(alloc, "\r\n")?;
+    text.replace(alloc, '\n', line_end.as_utfstr())
 }
