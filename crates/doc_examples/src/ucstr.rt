@@ -193,6 +193,53 @@ fn example_of_ucstr_cmp_code_points() -> Result<bool, Fail> {
     Ok(holds)
 }
 
+fn example_of_ucstr_splitn_any() -> Result<bool, Fail> {
+    let list = U16CStr::from_slice(&[0x61, 0x2c, 0xd800, 0x3b, 0x62, 0])?;
+    let separators: &[char] = &[',', ';'];
+    let mut parts = list.splitn_any(2, separators);
+    let mut holds = parts.next() == Some(U16Str::from_slice(&[0x61]));
+    holds &= parts.next() == Some(U16Str::from_slice(&[0xd800, 0x3b, 0x62]));
+    holds &= parts.next().is_none();
+    Ok(holds)
+}
+
+fn example_of_ucstr_split_terminator_any() -> Result<bool, Fail> {
+    let list = U16CStr::from_slice(&[0x61, 0x2c, 0x62, 0x3b, 0])?;
+    let separators: &[char] = &[',', ';'];
+    Ok(list.split_terminator_any(separators).count() == 2)
+}
+
+fn example_of_ucstr_split_inclusive_any() -> Result<bool, Fail> {
+    let list = U16CStr::from_slice(&[0x61, 0x2c, 0xd800, 0x3b, 0])?;
+    let separators: &[char] = &[',', ';'];
+    let mut parts = list.split_inclusive_any(separators);
+    let mut holds = parts.next() == Some(U16Str::from_slice(&[0x61, 0x2c]));
+    holds &= parts.next() == Some(U16Str::from_slice(&[0xd800, 0x3b]));
+    holds &= parts.next().is_none();
+    Ok(holds)
+}
+
+fn example_of_ucstr_rsplit_any() -> Result<bool, Fail> {
+    let list = U16CStr::from_slice(&[0x61, 0x2c, 0xd800, 0x3b, 0])?;
+    let separators: &[char] = &[',', ';'];
+    let mut parts = list.rsplit_any(separators);
+    let mut holds = parts.next().is_some_and(|part| part.is_empty());
+    holds &= parts.next() == Some(U16Str::from_slice(&[0xd800]));
+    holds &= parts.next() == Some(U16Str::from_slice(&[0x61]));
+    holds &= parts.next().is_none();
+    Ok(holds)
+}
+
+fn example_of_ucstr_rsplitn_any() -> Result<bool, Fail> {
+    let path = U16CStr::from_slice(&[0x61, 0x2f, 0x62, 0x5c, 0x63, 0])?;
+    let separators: &[char] = &['/', '\\'];
+    let mut parts = path.rsplitn_any(2, separators);
+    let mut holds = parts.next() == Some(U16Str::from_slice(&[0x63]));
+    holds &= parts.next() == Some(U16Str::from_slice(&[0x61, 0x2f, 0x62]));
+    holds &= parts.next().is_none();
+    Ok(holds)
+}
+
 fn example_of_ucstr_find_any() -> Result<bool, Fail> {
     let path = U16CStr::from_slice(&[0x61, 0xd800, 0x2f, 0x62, 0])?;
     let separators: &[char] = &['\\', '/'];
@@ -420,6 +467,19 @@ fn part_3_holds(rt: &HostRuntime) -> bool {
         "UCStr::cmp_code_points",
         example_of_ucstr_cmp_code_points(),
     );
+    all &= holds(rt, "UCStr::splitn_any", example_of_ucstr_splitn_any());
+    all &= holds(
+        rt,
+        "UCStr::split_terminator_any",
+        example_of_ucstr_split_terminator_any(),
+    );
+    all &= holds(
+        rt,
+        "UCStr::split_inclusive_any",
+        example_of_ucstr_split_inclusive_any(),
+    );
+    all &= holds(rt, "UCStr::rsplit_any", example_of_ucstr_rsplit_any());
+    all &= holds(rt, "UCStr::rsplitn_any", example_of_ucstr_rsplitn_any());
     all &= holds(rt, "UCStr::find_any", example_of_ucstr_find_any());
     all &= holds(rt, "UCStr::split_any", example_of_ucstr_split_any());
     all &= holds(
@@ -437,7 +497,11 @@ fn part_3_holds(rt: &HostRuntime) -> bool {
         "UCStr::trim_start_matches",
         example_of_ucstr_trim_start_matches(),
     );
-    all &= holds(
+    all
+}
+
+fn part_4_holds(rt: &HostRuntime) -> bool {
+    let mut all = holds(
         rt,
         "UCStr::trim_end_matches",
         example_of_ucstr_trim_end_matches(),
@@ -446,11 +510,7 @@ fn part_3_holds(rt: &HostRuntime) -> bool {
     all &= holds(rt, "UCStr::trim_start", example_of_ucstr_trim_start());
     all &= holds(rt, "UCStr::trim_end", example_of_ucstr_trim_end());
     all &= holds(rt, "UCStr::trim", example_of_ucstr_trim());
-    all
-}
-
-fn part_4_holds(rt: &HostRuntime) -> bool {
-    let mut all = holds(rt, "UCStr::rsplit", example_of_ucstr_rsplit());
+    all &= holds(rt, "UCStr::rsplit", example_of_ucstr_rsplit());
     all &= holds(rt, "UCStr::rsplit_char", example_of_ucstr_rsplit_char());
     all &= holds(rt, "UCStr::rsplitn", example_of_ucstr_rsplitn());
     all &= holds(rt, "UCStr::rsplitn_char", example_of_ucstr_rsplitn_char());

@@ -74,6 +74,11 @@ fn example_of_ucstring_into_vec_with_nul(rt: &HostRuntime) -> Result<bool, Fail>
     Ok(units.as_slice() == [0x48, 0x69, 0].as_slice())
 }
 
+fn example_of_ucstring_into_ustring(rt: &HostRuntime) -> Result<bool, Fail> {
+    let name = U16CString::from_str(rt.alloc(), "Hi")?;
+    Ok(name.into_ustring().len() == 2)
+}
+
 fn example_of_ucstring_make_ascii_lowercase(rt: &HostRuntime) -> Result<bool, Fail> {
     let mut text = U16CString::from_str(rt.alloc(), "C:\\Temp")?;
     text.make_ascii_lowercase();
@@ -105,6 +110,12 @@ fn example_of_ucstrinucstring(rt: &HostRuntime) -> Result<bool, Fail> {
     let word = U16CStr::from_slice(&[0x48, 0x69, 0])?;
     let twice = word.repeat(rt.alloc(), 2)?;
     Ok(twice.as_ucstr().chars_lossy().eq("HiHi".chars()))
+}
+
+fn example_of_ucstrinucstring_to_ucstring(rt: &HostRuntime) -> Result<bool, Fail> {
+    let name = U16CStr::from_slice(&[0x48, 0x69, 0])?;
+    let copy = name.to_ucstring(rt.alloc())?;
+    Ok(copy.as_ucstr().len() == 2)
 }
 
 fn example_of_ucstrinucstring_to_ascii_lowercase(rt: &HostRuntime) -> Result<bool, Fail> {
@@ -172,22 +183,32 @@ pub(crate) fn hold(rt: &HostRuntime) -> bool {
     );
     all &= holds(
         rt,
-        "UCString::make_ascii_lowercase",
-        example_of_ucstring_make_ascii_lowercase(rt),
+        "UCString::into_ustring",
+        example_of_ucstring_into_ustring(rt),
     );
     all &= holds(
         rt,
-        "UCString::make_ascii_uppercase",
-        example_of_ucstring_make_ascii_uppercase(rt),
+        "UCString::make_ascii_lowercase",
+        example_of_ucstring_make_ascii_lowercase(rt),
     );
     all &= part_2_holds(rt);
     all
 }
 
 fn part_2_holds(rt: &HostRuntime) -> bool {
-    let mut all = holds(rt, "CowUCStr", example_of_cowucstr(rt));
+    let mut all = holds(
+        rt,
+        "UCString::make_ascii_uppercase",
+        example_of_ucstring_make_ascii_uppercase(rt),
+    );
+    all &= holds(rt, "CowUCStr", example_of_cowucstr(rt));
     all &= holds(rt, "BoxedUCStr", example_of_boxeducstr(rt));
     all &= holds(rt, "UCStrInUcstring", example_of_ucstrinucstring(rt));
+    all &= holds(
+        rt,
+        "UCStrInUcstring::to_ucstring",
+        example_of_ucstrinucstring_to_ucstring(rt),
+    );
     all &= holds(
         rt,
         "UCStrInUcstring::to_ascii_lowercase",

@@ -47,6 +47,11 @@ fn example_of_ustr_char_indices_lossy() -> Result<bool, Fail> {
     Ok(holds)
 }
 
+fn example_of_ustr_chars() -> Result<bool, Fail> {
+    let units = U16Str::from_slice(&[0x48, 0xd83d, 0x69]);
+    Ok(units.chars().filter(|item| item.is_err()).count() == 1)
+}
+
 fn example_of_ustr_char_indices() -> Result<bool, Fail> {
     let units = U16Str::from_slice(&[0x48, 0xd83d, 0x69, 0xdc00]);
     let mut faults = units.char_indices().filter(|item| item.1.is_err());
@@ -300,6 +305,53 @@ fn example_of_ustr_cmp_code_points() -> Result<bool, Fail> {
     let letter = U16Str::from_slice(&[0x61, 0xff21]);
     let mut holds = emoji < letter;
     holds &= emoji.cmp_code_points(letter) == Ordering::Greater;
+    Ok(holds)
+}
+
+fn example_of_ustr_splitn_any() -> Result<bool, Fail> {
+    let list = U16Str::from_slice(&[0x61, 0x2c, 0xd800, 0x3b, 0x62]);
+    let separators: &[char] = &[',', ';'];
+    let mut parts = list.splitn_any(2, separators);
+    let mut holds = parts.next() == Some(U16Str::from_slice(&[0x61]));
+    holds &= parts.next() == Some(U16Str::from_slice(&[0xd800, 0x3b, 0x62]));
+    holds &= parts.next().is_none();
+    Ok(holds)
+}
+
+fn example_of_ustr_split_terminator_any() -> Result<bool, Fail> {
+    let list = U16Str::from_slice(&[0x61, 0x2c, 0x62, 0x3b]);
+    let separators: &[char] = &[',', ';'];
+    Ok(list.split_terminator_any(separators).count() == 2)
+}
+
+fn example_of_ustr_split_inclusive_any() -> Result<bool, Fail> {
+    let list = U16Str::from_slice(&[0x61, 0x2c, 0xd800, 0x3b]);
+    let separators: &[char] = &[',', ';'];
+    let mut parts = list.split_inclusive_any(separators);
+    let mut holds = parts.next() == Some(U16Str::from_slice(&[0x61, 0x2c]));
+    holds &= parts.next() == Some(U16Str::from_slice(&[0xd800, 0x3b]));
+    holds &= parts.next().is_none();
+    Ok(holds)
+}
+
+fn example_of_ustr_rsplit_any() -> Result<bool, Fail> {
+    let list = U16Str::from_slice(&[0x61, 0x2c, 0xd800, 0x3b]);
+    let separators: &[char] = &[',', ';'];
+    let mut parts = list.rsplit_any(separators);
+    let mut holds = parts.next().is_some_and(|part| part.is_empty());
+    holds &= parts.next() == Some(U16Str::from_slice(&[0xd800]));
+    holds &= parts.next() == Some(U16Str::from_slice(&[0x61]));
+    holds &= parts.next().is_none();
+    Ok(holds)
+}
+
+fn example_of_ustr_rsplitn_any() -> Result<bool, Fail> {
+    let path = U16Str::from_slice(&[0x61, 0x2f, 0x62, 0x5c, 0x63]);
+    let separators: &[char] = &['/', '\\'];
+    let mut parts = path.rsplitn_any(2, separators);
+    let mut holds = parts.next() == Some(U16Str::from_slice(&[0x63]));
+    holds &= parts.next() == Some(U16Str::from_slice(&[0x61, 0x2f, 0x62]));
+    holds &= parts.next().is_none();
     Ok(holds)
 }
 
@@ -684,6 +736,7 @@ pub(crate) fn hold(rt: &HostRuntime) -> bool {
         "UStr::char_indices_lossy",
         example_of_ustr_char_indices_lossy(),
     );
+    all &= holds(rt, "UStr::chars", example_of_ustr_chars());
     all &= holds(rt, "UStr::char_indices", example_of_ustr_char_indices());
     all &= holds(
         rt,
@@ -697,7 +750,6 @@ pub(crate) fn hold(rt: &HostRuntime) -> bool {
     );
     all &= holds(rt, "UStr::to_string", example_of_ustr_to_string(rt));
     all &= holds(rt, "UStr::to_string", example_of_ustr_to_string_2(rt));
-    all &= holds(rt, "UStr::lines_lossy", example_of_ustr_lines_lossy());
     all &= part_2_holds(rt);
     all &= part_3_holds(rt);
     all &= part_4_holds(rt);
@@ -705,11 +757,13 @@ pub(crate) fn hold(rt: &HostRuntime) -> bool {
     all &= part_6_holds(rt);
     all &= part_7_holds(rt);
     all &= part_8_holds(rt);
+    all &= part_9_holds(rt);
     all
 }
 
 fn part_2_holds(rt: &HostRuntime) -> bool {
-    let mut all = holds(
+    let mut all = holds(rt, "UStr::lines_lossy", example_of_ustr_lines_lossy());
+    all &= holds(
         rt,
         "UStr::line_indices_lossy",
         example_of_ustr_line_indices_lossy(),
@@ -736,16 +790,16 @@ fn part_2_holds(rt: &HostRuntime) -> bool {
         "UStr::ends_with_ignore_ascii_case",
         example_of_ustr_ends_with_ignore_ascii_case(rt),
     );
-    all &= holds(
-        rt,
-        "UStr::contains_ignore_ascii_case",
-        example_of_ustr_contains_ignore_ascii_case(rt),
-    );
     all
 }
 
 fn part_3_holds(rt: &HostRuntime) -> bool {
     let mut all = holds(
+        rt,
+        "UStr::contains_ignore_ascii_case",
+        example_of_ustr_contains_ignore_ascii_case(rt),
+    );
+    all &= holds(
         rt,
         "UStr::find_ignore_ascii_case",
         example_of_ustr_find_ignore_ascii_case(rt),
@@ -780,12 +834,12 @@ fn part_3_holds(rt: &HostRuntime) -> bool {
         example_of_ustr_strip_suffix_char(),
     );
     all &= holds(rt, "UStr::find_from", example_of_ustr_find_from());
-    all &= holds(rt, "UStr::find_char_from", example_of_ustr_find_char_from());
     all
 }
 
 fn part_4_holds(rt: &HostRuntime) -> bool {
-    let mut all = holds(rt, "UStr::match_indices", example_of_ustr_match_indices());
+    let mut all = holds(rt, "UStr::find_char_from", example_of_ustr_find_char_from());
+    all &= holds(rt, "UStr::match_indices", example_of_ustr_match_indices());
     all &= holds(
         rt,
         "UStr::match_indices_char",
@@ -798,8 +852,25 @@ fn part_4_holds(rt: &HostRuntime) -> bool {
         "UStr::cmp_code_points",
         example_of_ustr_cmp_code_points(),
     );
+    all &= holds(rt, "UStr::splitn_any", example_of_ustr_splitn_any());
+    all &= holds(
+        rt,
+        "UStr::split_terminator_any",
+        example_of_ustr_split_terminator_any(),
+    );
+    all &= holds(
+        rt,
+        "UStr::split_inclusive_any",
+        example_of_ustr_split_inclusive_any(),
+    );
+    all &= holds(rt, "UStr::rsplit_any", example_of_ustr_rsplit_any());
+    all &= holds(rt, "UStr::rsplitn_any", example_of_ustr_rsplitn_any());
     all &= holds(rt, "UStr::find_any", example_of_ustr_find_any());
-    all &= holds(rt, "UStr::split_any", example_of_ustr_split_any());
+    all
+}
+
+fn part_5_holds(rt: &HostRuntime) -> bool {
+    let mut all = holds(rt, "UStr::split_any", example_of_ustr_split_any());
     all &= holds(
         rt,
         "UStr::split_whitespace",
@@ -821,17 +892,17 @@ fn part_4_holds(rt: &HostRuntime) -> bool {
         example_of_ustr_trim_end_matches(),
     );
     all &= holds(rt, "UStr::trim_matches", example_of_ustr_trim_matches());
-    all
-}
-
-fn part_5_holds(rt: &HostRuntime) -> bool {
-    let mut all = holds(rt, "UStr::trim_start", example_of_ustr_trim_start());
+    all &= holds(rt, "UStr::trim_start", example_of_ustr_trim_start());
     all &= holds(rt, "UStr::trim_end", example_of_ustr_trim_end());
     all &= holds(rt, "UStr::trim", example_of_ustr_trim());
     all &= holds(rt, "UStr::rsplit", example_of_ustr_rsplit());
     all &= holds(rt, "UStr::rsplit_char", example_of_ustr_rsplit_char());
     all &= holds(rt, "UStr::rsplitn", example_of_ustr_rsplitn());
-    all &= holds(rt, "UStr::rsplitn_char", example_of_ustr_rsplitn_char());
+    all
+}
+
+fn part_6_holds(rt: &HostRuntime) -> bool {
+    let mut all = holds(rt, "UStr::rsplitn_char", example_of_ustr_rsplitn_char());
     all &= holds(
         rt,
         "UStr::split_inclusive",
@@ -845,11 +916,7 @@ fn part_5_holds(rt: &HostRuntime) -> bool {
     all &= holds(rt, "UStr::splitn", example_of_ustr_splitn());
     all &= holds(rt, "UStr::splitn_unit", example_of_ustr_splitn_unit());
     all &= holds(rt, "UStr::splitn_char", example_of_ustr_splitn_char());
-    all
-}
-
-fn part_6_holds(rt: &HostRuntime) -> bool {
-    let mut all = holds(
+    all &= holds(
         rt,
         "UStr::split_terminator",
         example_of_ustr_split_terminator(),
@@ -863,38 +930,42 @@ fn part_6_holds(rt: &HostRuntime) -> bool {
     all &= holds(rt, "CharsLossy", example_of_charslossy());
     all &= holds(rt, "CharIndices", example_of_charindices());
     all &= holds(rt, "CharIndicesLossy", example_of_charindiceslossy());
-    all &= holds(rt, "CharsLossyWith", example_of_charslossywith());
+    all
+}
+
+fn part_7_holds(rt: &HostRuntime) -> bool {
+    let mut all = holds(rt, "CharsLossyWith", example_of_charslossywith());
     all &= holds(rt, "LineView", example_of_lineview());
     all &= holds(rt, "Lines", example_of_lines());
     all &= holds(rt, "LineIndices", example_of_lineindices());
     all &= holds(rt, "SplitView", example_of_splitview());
     all &= holds(rt, "NeedleView", example_of_needleview());
-    all
-}
-
-fn part_7_holds(rt: &HostRuntime) -> bool {
-    let mut all = holds(rt, "OneUnit", example_of_oneunit());
+    all &= holds(rt, "OneUnit", example_of_oneunit());
     all &= holds(rt, "Split", example_of_split());
     all &= holds(rt, "Display", example_of_display(rt));
     all &= holds(rt, "DisplaySkipping", example_of_displayskipping(rt));
     all &= holds(rt, "MatchView", example_of_matchview());
     all &= holds(rt, "MatchBackView", example_of_matchbackview());
-    all &= holds(rt, "MatchIndices", example_of_matchindices());
+    all
+}
+
+fn part_8_holds(rt: &HostRuntime) -> bool {
+    let mut all = holds(rt, "MatchIndices", example_of_matchindices());
     all &= holds(rt, "Matches", example_of_matches());
     all &= holds(rt, "AnyOf", example_of_anyof());
     all &= holds(rt, "BackView", example_of_backview());
     all &= holds(rt, "RSplit", example_of_rsplit());
     all &= holds(rt, "RSplitN", example_of_rsplitn());
-    all
-}
-
-fn part_8_holds(rt: &HostRuntime) -> bool {
-    let mut all = holds(rt, "DoubleEndedView", example_of_doubleendedview());
+    all &= holds(rt, "DoubleEndedView", example_of_doubleendedview());
     all &= holds(rt, "SplitFilled", example_of_splitfilled());
     all &= holds(rt, "InclusiveView", example_of_inclusiveview());
     all &= holds(rt, "InclusiveBackView", example_of_inclusivebackview());
     all &= holds(rt, "SplitInclusive", example_of_splitinclusive());
     all &= holds(rt, "SplitN", example_of_splitn());
-    all &= holds(rt, "SplitTerminator", example_of_splitterminator());
+    all
+}
+
+fn part_9_holds(rt: &HostRuntime) -> bool {
+    let mut all = holds(rt, "SplitTerminator", example_of_splitterminator());
     all
 }

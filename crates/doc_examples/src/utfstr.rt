@@ -89,6 +89,19 @@ fn example_of_utfstr_from_slice() -> Result<bool, Fail> {
     Ok(holds)
 }
 
+fn example_of_utfstr_from_ustr() -> Result<bool, Fail> {
+    let text = Utf16Str::from_ustr(U16Str::from_slice(&[0xd83d, 0xde00]))?;
+    let mut holds = text.eq_str("😀");
+    holds &= Utf16Str::from_ustr(U16Str::from_slice(&[0xd83d])).is_err();
+    Ok(holds)
+}
+
+fn example_of_utfstr_from_ucstr() -> Result<bool, Fail> {
+    let name = U16CStr::from_slice(&[0x48, 0x69, 0])?;
+    let text = Utf16Str::from_ucstr(name)?;
+    Ok(text.eq_str("Hi"))
+}
+
 fn example_of_utfstr_as_ustr() -> Result<bool, Fail> {
     let text = Utf16Str::from_slice(&[0x48, 0xd83d, 0xde00])?;
     let mut holds = text.get(2..).is_none();
@@ -123,6 +136,12 @@ fn example_of_utfstr_encode_utf16() -> Result<bool, Fail> {
     let mut holds = units.next() == Some(0xd83d);
     holds &= units.next() == Some(0xde00);
     Ok(holds)
+}
+
+fn example_of_utfstr_to_string(rt: &HostRuntime) -> Result<bool, Fail> {
+    let text = Utf16Str::from_slice(&[0xe9, 0xd83d, 0xde00])?;
+    let text = text.to_string(rt.alloc())?;
+    Ok(text.as_str() == "é😀")
 }
 
 fn example_of_utfstr_trim_start() -> Result<bool, Fail> {
@@ -417,6 +436,53 @@ fn example_of_utfstr_cmp_str() -> Result<bool, Fail> {
     Ok(holds)
 }
 
+fn example_of_utfstr_splitn_any() -> Result<bool, Fail> {
+    let list = Utf16Str::from_slice(&[0xe9, 0x2c, 0xd83d, 0xde00, 0x3b, 0x62])?;
+    let separators: &[char] = &[',', ';'];
+    let mut parts = list.splitn_any(2, separators);
+    let mut holds = parts.next().is_some_and(|part| part.eq_str("é"));
+    holds &= parts.next().is_some_and(|part| part.eq_str("😀;b"));
+    holds &= parts.next().is_none();
+    Ok(holds)
+}
+
+fn example_of_utfstr_split_terminator_any() -> Result<bool, Fail> {
+    let list = Utf16Str::from_slice(&[0xe9, 0x2c, 0xd83d, 0xde00, 0x3b])?;
+    let separators: &[char] = &[',', ';'];
+    Ok(list.split_terminator_any(separators).count() == 2)
+}
+
+fn example_of_utfstr_split_inclusive_any() -> Result<bool, Fail> {
+    let list = Utf16Str::from_slice(&[0xe9, 0x2c, 0xd83d, 0xde00, 0x3b])?;
+    let separators: &[char] = &[',', ';'];
+    let mut parts = list.split_inclusive_any(separators);
+    let mut holds = parts.next().is_some_and(|part| part.eq_str("é,"));
+    holds &= parts.next().is_some_and(|part| part.eq_str("😀;"));
+    holds &= parts.next().is_none();
+    Ok(holds)
+}
+
+fn example_of_utfstr_rsplit_any() -> Result<bool, Fail> {
+    let list = Utf16Str::from_slice(&[0xe9, 0x2c, 0xd83d, 0xde00, 0x3b])?;
+    let separators: &[char] = &[',', ';'];
+    let mut parts = list.rsplit_any(separators);
+    let mut holds = parts.next().is_some_and(|part| part.is_empty());
+    holds &= parts.next().is_some_and(|part| part.eq_str("😀"));
+    holds &= parts.next().is_some_and(|part| part.eq_str("é"));
+    holds &= parts.next().is_none();
+    Ok(holds)
+}
+
+fn example_of_utfstr_rsplitn_any() -> Result<bool, Fail> {
+    let path = Utf16Str::from_slice(&[0x61, 0x2f, 0xe9, 0x5c, 0xd83d, 0xde00])?;
+    let separators: &[char] = &['/', '\\'];
+    let mut parts = path.rsplitn_any(2, separators);
+    let mut holds = parts.next().is_some_and(|part| part.eq_str("😀"));
+    holds &= parts.next().is_some_and(|part| part.eq_str("a/é"));
+    holds &= parts.next().is_none();
+    Ok(holds)
+}
+
 fn example_of_utfstr_find_any() -> Result<bool, Fail> {
     let path = Utf16Str::from_slice(&[0xd83d, 0xde00, 0x2f, 0x62])?;
     let separators: &[char] = &['\\', '/'];
@@ -646,34 +712,38 @@ pub(crate) fn hold(rt: &HostRuntime) -> bool {
     all &= holds(rt, "UtfStr::char_indices", example_of_utfstr_char_indices());
     all &= holds(rt, "UtfStr::encode_utf8", example_of_utfstr_encode_utf8());
     all &= holds(rt, "UtfStr::from_slice", example_of_utfstr_from_slice());
-    all &= holds(rt, "UtfStr::as_ustr", example_of_utfstr_as_ustr());
+    all &= holds(rt, "UtfStr::from_ustr", example_of_utfstr_from_ustr());
     all &= part_2_holds(rt);
     all &= part_3_holds(rt);
     all &= part_4_holds(rt);
     all &= part_5_holds(rt);
     all &= part_6_holds(rt);
     all &= part_7_holds(rt);
+    all &= part_8_holds(rt);
     all
 }
 
 fn part_2_holds(rt: &HostRuntime) -> bool {
-    let mut all = holds(rt, "UtfStr::code_units", example_of_utfstr_code_units());
+    let mut all = holds(rt, "UtfStr::from_ucstr", example_of_utfstr_from_ucstr());
+    all &= holds(rt, "UtfStr::as_ustr", example_of_utfstr_as_ustr());
+    all &= holds(rt, "UtfStr::code_units", example_of_utfstr_code_units());
     all &= holds(rt, "UtfStr::encode_utf32", example_of_utfstr_encode_utf32());
     all &= holds(rt, "UtfStr::char_at", example_of_utfstr_char_at());
     all &= holds(rt, "UtfStr::encode_utf16", example_of_utfstr_encode_utf16());
+    all &= holds(rt, "UtfStr::to_string", example_of_utfstr_to_string(rt));
     all &= holds(rt, "UtfStr::trim_start", example_of_utfstr_trim_start());
     all &= holds(rt, "UtfStr::trim_end", example_of_utfstr_trim_end());
     all &= holds(rt, "UtfStr::trim", example_of_utfstr_trim());
     all &= holds(rt, "UtfStr::lines", example_of_utfstr_lines());
     all &= holds(rt, "UtfStr::line_indices", example_of_utfstr_line_indices());
-    all &= holds(rt, "UtfStr::starts_with", example_of_utfstr_starts_with());
-    all &= holds(rt, "UtfStr::ends_with", example_of_utfstr_ends_with());
-    all &= holds(rt, "UtfStr::contains", example_of_utfstr_contains());
     all
 }
 
 fn part_3_holds(rt: &HostRuntime) -> bool {
-    let mut all = holds(rt, "UtfStr::find", example_of_utfstr_find());
+    let mut all = holds(rt, "UtfStr::starts_with", example_of_utfstr_starts_with());
+    all &= holds(rt, "UtfStr::ends_with", example_of_utfstr_ends_with());
+    all &= holds(rt, "UtfStr::contains", example_of_utfstr_contains());
+    all &= holds(rt, "UtfStr::find", example_of_utfstr_find());
     all &= holds(rt, "UtfStr::rfind", example_of_utfstr_rfind());
     all &= holds(rt, "UtfStr::find_char", example_of_utfstr_find_char());
     all &= holds(rt, "UtfStr::strip_prefix", example_of_utfstr_strip_prefix());
@@ -690,7 +760,11 @@ fn part_3_holds(rt: &HostRuntime) -> bool {
         "UtfStr::ceil_char_boundary",
         example_of_utfstr_ceil_char_boundary(),
     );
-    all &= holds(
+    all
+}
+
+fn part_4_holds(rt: &HostRuntime) -> bool {
+    let mut all = holds(
         rt,
         "UtfStr::escape_unicode",
         example_of_utfstr_escape_unicode(rt),
@@ -705,11 +779,7 @@ fn part_3_holds(rt: &HostRuntime) -> bool {
         "UtfStr::escape_debug",
         example_of_utfstr_escape_debug(rt),
     );
-    all
-}
-
-fn part_4_holds(rt: &HostRuntime) -> bool {
-    let mut all = holds(rt, "UtfStr::is_ascii", example_of_utfstr_is_ascii(rt));
+    all &= holds(rt, "UtfStr::is_ascii", example_of_utfstr_is_ascii(rt));
     all &= holds(
         rt,
         "UtfStr::eq_ignore_ascii_case",
@@ -750,7 +820,11 @@ fn part_4_holds(rt: &HostRuntime) -> bool {
         "UtfStr::ends_with_char",
         example_of_utfstr_ends_with_char(),
     );
-    all &= holds(
+    all
+}
+
+fn part_5_holds(rt: &HostRuntime) -> bool {
+    let mut all = holds(
         rt,
         "UtfStr::strip_prefix_char",
         example_of_utfstr_strip_prefix_char(),
@@ -761,11 +835,7 @@ fn part_4_holds(rt: &HostRuntime) -> bool {
         example_of_utfstr_strip_suffix_char(),
     );
     all &= holds(rt, "UtfStr::find_from", example_of_utfstr_find_from());
-    all
-}
-
-fn part_5_holds(rt: &HostRuntime) -> bool {
-    let mut all = holds(
+    all &= holds(
         rt,
         "UtfStr::find_char_from",
         example_of_utfstr_find_char_from(),
@@ -789,6 +859,23 @@ fn part_5_holds(rt: &HostRuntime) -> bool {
         example_of_utfstr_cmp_code_points(),
     );
     all &= holds(rt, "UtfStr::cmp_str", example_of_utfstr_cmp_str());
+    all &= holds(rt, "UtfStr::splitn_any", example_of_utfstr_splitn_any());
+    all
+}
+
+fn part_6_holds(rt: &HostRuntime) -> bool {
+    let mut all = holds(
+        rt,
+        "UtfStr::split_terminator_any",
+        example_of_utfstr_split_terminator_any(),
+    );
+    all &= holds(
+        rt,
+        "UtfStr::split_inclusive_any",
+        example_of_utfstr_split_inclusive_any(),
+    );
+    all &= holds(rt, "UtfStr::rsplit_any", example_of_utfstr_rsplit_any());
+    all &= holds(rt, "UtfStr::rsplitn_any", example_of_utfstr_rsplitn_any());
     all &= holds(rt, "UtfStr::find_any", example_of_utfstr_find_any());
     all &= holds(rt, "UtfStr::split_any", example_of_utfstr_split_any());
     all &= holds(
@@ -801,11 +888,7 @@ fn part_5_holds(rt: &HostRuntime) -> bool {
         "UtfStr::split_ascii_whitespace",
         example_of_utfstr_split_ascii_whitespace(),
     );
-    all
-}
-
-fn part_6_holds(rt: &HostRuntime) -> bool {
-    let mut all = holds(
+    all &= holds(
         rt,
         "UtfStr::trim_start_matches",
         example_of_utfstr_trim_start_matches(),
@@ -817,7 +900,11 @@ fn part_6_holds(rt: &HostRuntime) -> bool {
     );
     all &= holds(rt, "UtfStr::trim_matches", example_of_utfstr_trim_matches());
     all &= holds(rt, "UtfStr::split", example_of_utfstr_split());
-    all &= holds(rt, "UtfStr::split_char", example_of_utfstr_split_char());
+    all
+}
+
+fn part_7_holds(rt: &HostRuntime) -> bool {
+    let mut all = holds(rt, "UtfStr::split_char", example_of_utfstr_split_char());
     all &= holds(rt, "UtfStr::splitn", example_of_utfstr_splitn());
     all &= holds(rt, "UtfStr::splitn_char", example_of_utfstr_splitn_char());
     all &= holds(
@@ -833,11 +920,7 @@ fn part_6_holds(rt: &HostRuntime) -> bool {
     all &= holds(rt, "UtfStr::rsplit", example_of_utfstr_rsplit());
     all &= holds(rt, "UtfStr::rsplit_char", example_of_utfstr_rsplit_char());
     all &= holds(rt, "UtfStr::rsplitn", example_of_utfstr_rsplitn());
-    all
-}
-
-fn part_7_holds(rt: &HostRuntime) -> bool {
-    let mut all = holds(rt, "UtfStr::rsplitn_char", example_of_utfstr_rsplitn_char());
+    all &= holds(rt, "UtfStr::rsplitn_char", example_of_utfstr_rsplitn_char());
     all &= holds(
         rt,
         "UtfStr::split_inclusive",
@@ -849,7 +932,11 @@ fn part_7_holds(rt: &HostRuntime) -> bool {
         example_of_utfstr_split_inclusive_char(),
     );
     all &= holds(rt, "EscapeUnicode", example_of_escapeunicode(rt));
-    all &= holds(rt, "EscapeDefault", example_of_escapedefault(rt));
+    all
+}
+
+fn part_8_holds(rt: &HostRuntime) -> bool {
+    let mut all = holds(rt, "EscapeDefault", example_of_escapedefault(rt));
     all &= holds(rt, "EscapeDebug", example_of_escapedebug(rt));
     all &= holds(rt, "Chars", example_of_chars(rt));
     all &= holds(rt, "UStrInUtfstr", example_of_ustrinutfstr());

@@ -24,6 +24,12 @@ fn example_of_utfstring_from_vec(rt: &HostRuntime) -> Result<bool, Fail> {
     Ok(holds)
 }
 
+fn example_of_utfstring_from_ustring(rt: &HostRuntime) -> Result<bool, Fail> {
+    let units = U16String::from_str(rt.alloc(), "é😀")?;
+    let text = Utf16String::from_ustring(units)?;
+    Ok(text.as_utfstr().eq_str("é😀"))
+}
+
 fn example_of_utfstring_from_str(rt: &HostRuntime) -> Result<bool, Fail> {
     let text = Utf16String::from_str(rt.alloc(), "é😀")?;
     Ok(text.as_slice() == [0xe9, 0xd83d, 0xde00].as_slice())
@@ -32,6 +38,12 @@ fn example_of_utfstring_from_str(rt: &HostRuntime) -> Result<bool, Fail> {
 fn example_of_utfstring_as_utfstr(rt: &HostRuntime) -> Result<bool, Fail> {
     let text = Utf16String::from_str(rt.alloc(), "  Заголовок\n")?;
     Ok(text.as_utfstr().trim().eq_str("Заголовок"))
+}
+
+fn example_of_utfstring_into_ustring(rt: &HostRuntime) -> Result<bool, Fail> {
+    let text = Utf16String::from_str(rt.alloc(), "😀")?;
+    let units = text.into_ustring();
+    Ok(units.as_slice() == [0xd83d, 0xde00].as_slice())
 }
 
 fn example_of_utfstring_reserve(rt: &HostRuntime) -> Result<bool, Fail> {
@@ -285,6 +297,12 @@ fn example_of_utfstrinutfstring_to_utfstring(rt: &HostRuntime) -> Result<bool, F
     Ok(text.as_utfstr().eq_str("Hi!"))
 }
 
+fn example_of_utfstrinutfstring_repeat(rt: &HostRuntime) -> Result<bool, Fail> {
+    let text = Utf16Str::from_slice(&[0xd83d, 0xde00])?;
+    let twice = text.repeat(rt.alloc(), 2)?;
+    Ok(twice.as_utfstr().eq_str("😀😀"))
+}
+
 fn example_of_utfstrinutfstring_to_lowercase(rt: &HostRuntime) -> Result<bool, Fail> {
     let title = Utf16String::from_str(rt.alloc(), "ЗАГОЛОВОК Σ")?;
     let text = title.as_utfstr().to_lowercase(rt.alloc())?;
@@ -334,11 +352,21 @@ fn example_of_ustringinutfstring(rt: &HostRuntime) -> Result<bool, Fail> {
 pub(crate) fn hold(rt: &HostRuntime) -> bool {
     let mut all = holds(rt, "UtfString", example_of_utfstring(rt));
     all &= holds(rt, "UtfString::from_vec", example_of_utfstring_from_vec(rt));
+    all &= holds(
+        rt,
+        "UtfString::from_ustring",
+        example_of_utfstring_from_ustring(rt),
+    );
     all &= holds(rt, "UtfString::from_str", example_of_utfstring_from_str(rt));
     all &= holds(
         rt,
         "UtfString::as_utfstr",
         example_of_utfstring_as_utfstr(rt),
+    );
+    all &= holds(
+        rt,
+        "UtfString::into_ustring",
+        example_of_utfstring_into_ustring(rt),
     );
     all &= holds(rt, "UtfString::reserve", example_of_utfstring_reserve(rt));
     all &= holds(rt, "UtfString::clear", example_of_utfstring_clear(rt));
@@ -350,20 +378,21 @@ pub(crate) fn hold(rt: &HostRuntime) -> bool {
         example_of_utfstring_push_utfstr(rt),
     );
     all &= holds(rt, "UtfString::pop", example_of_utfstring_pop(rt));
-    all &= holds(rt, "UtfString::insert", example_of_utfstring_insert(rt));
+    all &= part_2_holds(rt);
+    all &= part_3_holds(rt);
+    all &= part_4_holds(rt);
+    all &= part_5_holds(rt);
+    all
+}
+
+fn part_2_holds(rt: &HostRuntime) -> bool {
+    let mut all = holds(rt, "UtfString::insert", example_of_utfstring_insert(rt));
     all &= holds(
         rt,
         "UtfString::insert_utfstr",
         example_of_utfstring_insert_utfstr(rt),
     );
-    all &= part_2_holds(rt);
-    all &= part_3_holds(rt);
-    all &= part_4_holds(rt);
-    all
-}
-
-fn part_2_holds(rt: &HostRuntime) -> bool {
-    let mut all = holds(rt, "UtfString::truncate", example_of_utfstring_truncate(rt));
+    all &= holds(rt, "UtfString::truncate", example_of_utfstring_truncate(rt));
     all &= holds(
         rt,
         "UtfString::split_off",
@@ -397,7 +426,11 @@ fn part_2_holds(rt: &HostRuntime) -> bool {
         "UtfString::from_slice_lossy_with",
         example_of_utfstring_from_slice_lossy_with(rt),
     );
-    all &= holds(
+    all
+}
+
+fn part_3_holds(rt: &HostRuntime) -> bool {
+    let mut all = holds(
         rt,
         "UtfString::from_ustr_lossy",
         example_of_utfstring_from_ustr_lossy(rt),
@@ -407,11 +440,7 @@ fn part_2_holds(rt: &HostRuntime) -> bool {
         "UtfString::from_ustr_lossy_with",
         example_of_utfstring_from_ustr_lossy_with(rt),
     );
-    all
-}
-
-fn part_3_holds(rt: &HostRuntime) -> bool {
-    let mut all = holds(
+    all &= holds(
         rt,
         "UtfString::make_ascii_lowercase",
         example_of_utfstring_make_ascii_lowercase(rt),
@@ -461,18 +490,23 @@ fn part_3_holds(rt: &HostRuntime) -> bool {
         "UtfString::extend_from_within",
         example_of_utfstring_extend_from_within(rt),
     );
-    all &= holds(rt, "CowUtfStr", example_of_cowutfstr(rt));
-    all &= holds(rt, "BoxedUtfStr", example_of_boxedutfstr(rt));
     all
 }
 
 fn part_4_holds(rt: &HostRuntime) -> bool {
-    let mut all = holds(rt, "DrainUtf", example_of_drainutf(rt));
+    let mut all = holds(rt, "CowUtfStr", example_of_cowutfstr(rt));
+    all &= holds(rt, "BoxedUtfStr", example_of_boxedutfstr(rt));
+    all &= holds(rt, "DrainUtf", example_of_drainutf(rt));
     all &= holds(rt, "UtfStrInUtfstring", example_of_utfstrinutfstring(rt));
     all &= holds(
         rt,
         "UtfStrInUtfstring::to_utfstring",
         example_of_utfstrinutfstring_to_utfstring(rt),
+    );
+    all &= holds(
+        rt,
+        "UtfStrInUtfstring::repeat",
+        example_of_utfstrinutfstring_repeat(rt),
     );
     all &= holds(
         rt,
@@ -496,6 +530,10 @@ fn part_4_holds(rt: &HostRuntime) -> bool {
     );
     all &= holds(rt, "OfText", example_of_oftext(rt));
     all &= holds(rt, "UStringOverUtfstrs", example_of_ustringoverutfstrs(rt));
-    all &= holds(rt, "UStringInUtfstring", example_of_ustringinutfstring(rt));
+    all
+}
+
+fn part_5_holds(rt: &HostRuntime) -> bool {
+    let mut all = holds(rt, "UStringInUtfstring", example_of_ustringinutfstring(rt));
     all
 }

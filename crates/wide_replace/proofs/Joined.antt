@@ -8,7 +8,7 @@ use Rattle.wide_search.specs.Substrings.{AreSubstrings, joined_with}
 use Rattle.wide_search.specs.Laws.Cuts.{substrings-at_most}
 use Rattle.wide_search.specs.Laws.Occurrences.{substrings-joined}
 use Rattle.wide_search.specs.Laws.Cuts.{some-substrings}
-use Rattle.wide_ustr.proofs.Few.{whole-joined}
+use Rattle.wide_ustr.specs.KeptLaws.{whole-joined}
 use Rattle.wide_replace.specs.Replaced.{joined_first}
 
 joined_alone : (left : ℕ) (with needle rest : List ℕ) → joined_first left with needle (rest ∷ []) ≡ rest

@@ -11,6 +11,7 @@ pub mod laws;
 mod matches;
 mod order;
 mod search;
+mod set_splits;
 mod sets;
 mod split_more;
 mod text;

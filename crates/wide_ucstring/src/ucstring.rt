@@ -442,6 +442,13 @@ impl<C: FaultUnit, A: Allocator> UCString<C, A> {
     }
 
     /// Returns the contents, without the NUL, as a string of units. It does not allocate.
+    ///
+    /// # Example
+    ///
+    /// ```
+    /// let name = U16CString::from_str(rt.alloc(), "Hi")?;
+    /// assert!(rt; name.into_ustring().len() == 2);
+    /// ```
     pub fn into_ustring(self) -> UString<C, A>
         ensures units { result.units ≡ contents self.units }
         ensures no_nul { HasNoNul (map C.number result.units) }

@@ -36,6 +36,16 @@ pub trait UCStrInUcstring<C: FaultUnit> {
     /// # Errors
     ///
     /// [`OutOfMemory`] if the allocation fails.
+    ///
+    /// # Example
+    ///
+    /// ```
+    /// use widestring::ucstring::UCStrInUcstring;
+    ///
+    /// let name = U16CStr::from_slice(&[0x48, 0x69, 0])?;
+    /// let copy = name.to_ucstring(rt.alloc())?;
+    /// assert!(rt; copy.as_ucstr().len() == 2);
+    /// ```
     fn to_ucstring<A: Allocator>(self, alloc: A) -> Result<UCString<C, A>, OutOfMemory>
         ensures { IfOk result (λ s. contents s.units ≡ text self) };
 

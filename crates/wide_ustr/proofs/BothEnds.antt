@@ -144,11 +144,11 @@ precede-front form (Fault h) [] js may = tt
 precede-front form (Fault h) (Char c ∷ is) js may = tt
 precede-front form (Fault h) (Fault l ∷ is) js may = may
 
-chain-front : (form : EncodingForm) (is js : List Item) → Chain form (is ++ js) → Chain form is
+pub chain-front : (form : EncodingForm) (is js : List Item) → Chain form (is ++ js) → Chain form is
 chain-front form [] js chain = tt
 chain-front form (i ∷ is) js chain = (chain.0, precede-front form i is js chain.1, chain-front form is js chain.2)
 
-true_unless : (b : Bool) → ¬ (b ≡ false) → b ≡ true
+pub true_unless : (b : Bool) → ¬ (b ≡ false) → b ≡ true
 true_unless true other = refl
 true_unless false other = absurd (other refl)
 
@@ -157,7 +157,7 @@ module _ {C : Type 0} (form : EncodingForm) (number : C → ℕ) (has : ℕ → 
   abbrev whole : List ℕ
   whole = map number us
 
-  front-items : (before : List C) → before ≡ take at us → items form (map number before) ≡ longest.rest
+  pub front-items : (before : List C) → before ≡ take at us → items form (map number before) ≡ longest.rest
   front-items before is =
       ap (items form) (ap (map number) is ∙ sym (take-map number at us) ∙ ap (λ n. take n whole) (sym longest.length) ∙ units-before form whole longest.rest longest.suffix longest.joined)
       ∙ items-of_chain form longest.rest (chain-front form longest.rest longest.suffix (subst (Chain form) longest.joined (items-chain form whole)))
@@ -192,12 +192,12 @@ module _ {A : Type 0} where
   filled-last lists others [] is some = absurd (some refl)
   filled-last lists others (x ∷ last) is some = ap filled is ∙ filter-append _ others ((x ∷ last) ∷ [])
 
-  terminated-push : (others : List (List A)) (x : A) (last : List A) → terminated (others ++ (x ∷ last) ∷ []) ≡ others ++ (x ∷ last) ∷ []
+  pub terminated-push : (others : List (List A)) (x : A) (last : List A) → terminated (others ++ (x ∷ last) ∷ []) ≡ others ++ (x ∷ last) ∷ []
   terminated-push [] x last = refl
   terminated-push (a ∷ []) x last = refl
   terminated-push (a ∷ b ∷ others) x last = ap (λ ls. a ∷ ls) (terminated-push (b ∷ others) x last)
 
-  terminated-drop : (others : List (List A)) → terminated (others ++ [] ∷ []) ≡ others
+  pub terminated-drop : (others : List (List A)) → terminated (others ++ [] ∷ []) ≡ others
   terminated-drop [] = refl
   terminated-drop (a ∷ []) = refl
   terminated-drop (a ∷ b ∷ others) = ap (λ ls. a ∷ ls) (terminated-drop (b ∷ others))

@@ -1,14 +1,12 @@
 -- At most a number of substrings, one by one.
 use Rattle.std.proofs.Common.{◌≡◌, ℕ, zero, suc, ◌-◌, ◌<◌, ◌≤◌, List, [], ◌∷◌, ◌++◌, arith, refl, sym, ap, ◌∙◌, length, length-append, length-take, take, drop}
-use Rattle.wide_search.specs.Cut.{substrings, substrings-are, substrings-whole}
-use Rattle.wide_search.specs.Substrings.{AreSubstrings, joined_with}
+use Rattle.std.proofs.lemmas.List.{append-nil}
+use Rattle.wide_search.specs.Cut.{substrings}
+use Rattle.wide_search.specs.Substrings.{joined_with}
 use Rattle.wide_search.specs.Laws.Cuts.{some-substrings}
-use Rattle.wide_search.specs.Laws.Occurrences.{substrings-joined}
+use Rattle.wide_ustr.specs.Kept.{joined, followed_by, in_one, limited, substrings_kept}
+use Rattle.wide_ustr.specs.KeptLaws.{joined-followed, whole-joined}
 use Rattle.wide_ustr.specs.SplitN.{all_in_one, splitn}
-
-pub whole-joined : (needle whole : List ℕ) → joined_with needle (substrings needle whole) ≡ whole
-whole-joined [] whole = ap (joined_with []) (substrings-whole whole)
-whole-joined (p ∷ needle) whole = substrings-joined (p ∷ needle) (substrings (p ∷ needle) whole) whole (substrings-are (p ∷ needle) whole (omega arith))
 
 module _ {A : Type 0} (needle : List A) where
   abbrev nothing : List (List A)
@@ -79,6 +77,49 @@ splitn-whole needle whole count one = splitn-one needle count (substrings needle
 -- Joined with the separator, they are the whole view.
 pub joined-substrings : (needle whole : List ℕ) (count : ℕ) → 0 < count → joined_with needle (splitn count needle (substrings needle whole)) ≡ whole
 joined-substrings needle whole count some = joined-splitn needle count (substrings needle whole) some ∙ whole-joined needle whole
+
+-- At most a number of the substrings with the separators that end them.
+module _ {A : Type 0} (needle : List A) where
+  in_one-followed : (n : ℕ) (parts : List (List A)) → in_one (drop n (followed_by needle parts)) ≡ all_in_one needle (drop n parts)
+  in_one-followed n [] = ap in_one (drop-nothing needle n) ∙ sym (ap (all_in_one needle) (drop-nothing needle n))
+  in_one-followed zero (part ∷ []) = ap (λ xs. xs ∷ []) (append-nil part)
+  in_one-followed (suc n) (part ∷ []) = ap in_one (drop-nothing needle n) ∙ sym (ap (all_in_one needle) (drop-nothing needle n))
+  in_one-followed zero (part ∷ next ∷ more) = ap (λ xs. xs ∷ []) (joined-followed needle (part ∷ next ∷ more))
+  in_one-followed (suc n) (part ∷ next ∷ more) = in_one-followed n (next ∷ more)
+
+  -- If all have the same separator, they are what is joined with it.
+  pub limited-followed : (count : ℕ) (parts : List (List A)) → limited count parts (followed_by needle parts) ≡ splitn count needle parts
+  limited-followed zero parts = refl
+  limited-followed (suc n) parts = ap (λ ps. take n parts ++ ps) (in_one-followed n parts)
+
+pub limited-kept : (count : ℕ) (needle whole : List ℕ) → limited count (substrings needle whole) (substrings_kept needle whole) ≡ splitn count needle (substrings needle whole)
+limited-kept count needle whole = limited-followed needle count (substrings needle whole)
+
+module _ {A : Type 0} where
+  one-of_all : (kept : List (List A)) → 0 < length kept → in_one kept ≡ joined kept ∷ []
+  one-of_all [] some = absurd (omega (arith, some))
+  one-of_all (part ∷ more) some = refl
+
+  -- If there is to be one, it is all that there is.
+  pub limited-one : (count : ℕ) (whole : List A) (parts kept : List (List A)) → count ≡ 1 → joined kept ≡ whole → 0 < length kept → limited count parts kept ≡ whole ∷ []
+  limited-one zero whole parts kept one all some = absurd (omega (arith, one))
+  limited-one (suc zero) whole parts kept one all some = one-of_all kept some ∙ ap (λ xs. xs ∷ []) all
+  limited-one (suc (suc n)) whole parts kept one all some = absurd (omega (arith, one))
+
+  -- If nothing may be cut, all that is left is the only one.
+  pub limited-last : (cuts : ℕ) (whole : List A) (parts kept : List (List A)) → cuts ≡ 0 → joined kept ≡ whole → 0 < length kept → limited (suc cuts) parts kept ≡ whole ∷ []
+  limited-last zero whole parts kept none all some = one-of_all kept some ∙ ap (λ xs. xs ∷ []) all
+  limited-last (suc n) whole parts kept none all some = absurd (omega (arith, none))
+
+  -- If there is one substring, it is the only one of any number.
+  pub limited-only : (cuts : ℕ) (part : List A) → limited (suc cuts) (part ∷ []) (part ∷ []) ≡ part ∷ []
+  limited-only zero part = ap (λ xs. xs ∷ []) (append-nil part)
+  limited-only (suc n) part = ap (λ ps. part ∷ ps) (ap (λ ps. ps ++ in_one (drop n (nothing part))) (take-nothing part n) ∙ ap in_one (drop-nothing part n))
+
+  -- If what is left may be cut, the first one is the first substring.
+  pub limited-next : (cuts : ℕ) (part first : List A) (parts kept : List (List A)) → 0 < cuts → limited (suc cuts) (part ∷ parts) (first ∷ kept) ≡ part ∷ limited (suc (cuts - 1)) parts kept
+  limited-next zero part first parts kept some = absurd (omega (arith, some))
+  limited-next (suc n) part first parts kept some = let e : suc n - 1 ≡ n = omega arith in rw e refl
 
 -- What a separator is known to cut, by its units.
 pub cut-by_needle : (cut : List ℕ → List (List ℕ)) (needle : List ℕ) → ((us : List ℕ) → cut us ≡ substrings needle us) → (whole part rest : List ℕ) → cut whole ≡ part ∷ cut rest → substrings needle whole ≡ part ∷ substrings needle rest

@@ -8,3 +8,4 @@ pub mod Matched
 pub mod BothEnds
 pub mod InclusiveEnds
 pub mod MatchedEnds
+pub mod KeptCuts

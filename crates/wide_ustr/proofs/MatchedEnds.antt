@@ -8,7 +8,7 @@ use Rattle.wide_search.specs.Substrings.{joined_with}
 use Rattle.wide_search.specs.Laws.Cuts.{some-substrings}
 use Rattle.wide_ustr.specs.Matched.{matches_between, IsLastMatch}
 use Rattle.wide_ustr.proofs.BothEnds.{NeverOverlaps, substrings-last}
-use Rattle.wide_ustr.proofs.Few.{whole-joined}
+use Rattle.wide_ustr.specs.KeptLaws.{whole-joined}
 use Rattle.wide_ustr.proofs.Mirrored.{last-split}
 
 module _ {A : Type 0} (needle : List A) where

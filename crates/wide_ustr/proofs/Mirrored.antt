@@ -21,6 +21,15 @@ reversed-twice (l ∷ lists) = ap (λ x. x ∷ map reverse (map reverse lists)) 
 pub unreversed : {A : Type 0} (parts lists : List (List A)) → map reverse parts ≡ lists → parts ≡ map reverse lists
 unreversed parts lists is = sym (reversed-twice parts) ∙ ap (map reverse) is
 
+-- What the substrings from the back say of the reversed list.
+pub back-cut-none : (needle whole : List ℕ) → substrings_back needle whole ≡ whole ∷ [] → substrings (reverse needle) (reverse whole) ≡ reverse whole ∷ []
+back-cut-none needle whole is = unreversed (substrings (reverse needle) (reverse whole)) (whole ∷ []) is
+
+pub back-cut-next : (needle whole prefix rest : List ℕ) → substrings_back needle whole ≡ rest ∷ substrings_back needle prefix → substrings (reverse needle) (reverse whole) ≡ reverse rest ∷ substrings (reverse needle) (reverse prefix)
+back-cut-next needle whole prefix rest is =
+    unreversed (substrings (reverse needle) (reverse whole)) (rest ∷ substrings_back needle prefix) is
+    ∙ ap (λ parts. reverse rest ∷ parts) (reversed-twice (substrings (reverse needle) (reverse prefix)))
+
 module _ {A : Type 0} where
   -- A needle between two lists occurs after the first one.
   pub occurs-between : (needle whole prefix rest : List A) → whole ≡ prefix ++ (needle ++ rest) → OccursAt needle whole (length prefix)

@@ -4,6 +4,8 @@ pub mod Iter
 pub mod LossyWith
 pub mod Lines
 pub mod LineIndices
+pub mod Kept
+pub mod KeptLaws
 pub mod Split
 pub mod SplitN
 pub mod SplitMore
@@ -12,4 +14,5 @@ pub mod SplitInclusive
 pub mod Matched
 pub mod MatchesLeft
 pub mod Sets
+pub mod SetSplits
 pub mod Printed

@@ -2,6 +2,7 @@
 use Rattle.std.specs.Prelude.{ℕ, List, map, reverse}
 use Rattle.wide_forms.specs.EncodingForm.{EncodingForm, code_units}
 use Rattle.wide_search.specs.Cut.{substrings}
+use Rattle.wide_ustr.specs.Kept.{substrings_kept}
 use Rattle.wide_ustr.specs.Split.{substrings_left}
 use Rattle.wide_ustr.specs.SplitN.{splitn, splitn_left}
 use Rattle.wide_ustr.specs.View.{numbers_seen}
@@ -20,36 +21,34 @@ substrings_back needle whole = map reverse (substrings (reverse needle) (reverse
 abbrev pub rsplitn : ℕ → List ℕ → List ℕ → List (List ℕ)
 rsplitn count needle whole = map reverse (splitn count (reverse needle) (substrings (reverse needle) (reverse whole)))
 
-module _ {V P : Type 0} (seen : V → List ℕ) (sought : P → List ℕ) where
+module _ {V : Type 0} (seen : V → List ℕ) where
   -- The numbers of the units of a view that is read from its end.
   abbrev pub seen_back : Back V → List ℕ
   seen_back it = reverse (seen it.view)
 
-  -- The units of a separator that is read from its end.
-  abbrev pub sought_back : P → List ℕ
-  sought_back needle = reverse (sought needle)
+  module _ {P : Type 0} (cut_back : P → List ℕ → List (List ℕ)) where
+    -- The numbers of the units of each substring that will be yielded from the back, given how units are split that are
+    -- read from their end.
+    abbrev pub rsplit_left : RSplit V P → List (List ℕ)
+    rsplit_left s = map reverse (substrings_left seen_back cut_back s.all)
 
-  -- The numbers of the units of each substring that will be yielded from the back.
-  abbrev pub rsplit_left : RSplit V P → List (List ℕ)
-  rsplit_left s = map reverse (substrings_left seen_back (λ needle. substrings (sought_back needle)) s.all)
-
-  -- The numbers of the units of each of at most a number of substrings that will be yielded from the back.
-  abbrev pub rsplitn_left : RSplitN V P → List (List ℕ)
-  rsplitn_left s = map reverse (splitn_left seen_back sought_back s.all)
+    -- The numbers of the units of each of at most a number of substrings that will be yielded from the back.
+    abbrev pub rsplitn_left : (P → List ℕ → List (List ℕ)) → RSplitN V P → List (List ℕ)
+    rsplitn_left kept_back s = map reverse (splitn_left seen_back cut_back kept_back s.all)
 
 module _ {C : Type 0} where
   -- The substrings of units that are split at units, from the back.
   abbrev pub unit_rsplit_left : (C → ℕ) → RSplit (UStr C) (UStr C) → List (List ℕ)
-  unit_rsplit_left number s = rsplit_left (numbers_seen number) (numbers_seen number) s
+  unit_rsplit_left number s = rsplit_left (numbers_seen number) (λ needle. substrings (reverse (numbers_seen number needle))) s
 
   -- The substrings of units that are split at a character, from the back.
   abbrev pub char_rsplit_left : EncodingForm → (C → ℕ) → RSplit (UStr C) ℕ → List (List ℕ)
-  char_rsplit_left form number s = rsplit_left (numbers_seen number) (code_units form) s
+  char_rsplit_left form number s = rsplit_left (numbers_seen number) (λ c. substrings (reverse (code_units form c))) s
 
   -- At most a number of the substrings of units that are split at units, from the back.
   abbrev pub unit_rsplitn_left : (C → ℕ) → RSplitN (UStr C) (UStr C) → List (List ℕ)
-  unit_rsplitn_left number s = rsplitn_left (numbers_seen number) (numbers_seen number) s
+  unit_rsplitn_left number s = rsplitn_left (numbers_seen number) (λ needle. substrings (reverse (numbers_seen number needle))) (λ needle. substrings_kept (reverse (numbers_seen number needle))) s
 
   -- At most a number of the substrings of units that are split at a character, from the back.
   abbrev pub char_rsplitn_left : EncodingForm → (C → ℕ) → RSplitN (UStr C) ℕ → List (List ℕ)
-  char_rsplitn_left form number s = rsplitn_left (numbers_seen number) (code_units form) s
+  char_rsplitn_left form number s = rsplitn_left (numbers_seen number) (λ c. substrings (reverse (code_units form c))) (λ c. substrings_kept (reverse (code_units form c))) s

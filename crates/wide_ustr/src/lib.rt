@@ -15,6 +15,7 @@ mod matches;
 mod offsets;
 mod order;
 mod search;
+mod set_splits;
 mod sets;
 mod split;
 mod split_back;

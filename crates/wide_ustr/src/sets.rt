@@ -6,7 +6,8 @@ ghost use Rattle.std.specs.List.{All};
 ghost use Rattle.wide_forms.specs.Items.{items};
 ghost use Rattle.wide_search.specs.Laws.Sets.{between-some};
 ghost use Rattle.wide_search.specs.Sets.{is_member, substrings_between, without_prefix, without_suffix, without_ends, IsFirstMember};
-ghost use Rattle.wide_ustr.specs.Sets.{cut_at_any, any_substrings_left, any_filled_left};
+ghost use Rattle.wide_ustr.specs.KeptLaws.{ended-whole, ended-some};
+ghost use Rattle.wide_ustr.specs.Sets.{cut_at_any, kept_at_any, any_substrings_left, any_filled_left};
 ghost use Rattle.wide_ustr.specs.SplitMore.{filled};
 ghost use Rattle.wide_ustr.specs.View.{units_seen, numbers_seen};
 
@@ -44,6 +45,12 @@ impl<C: Unit, S: CharSet> SplitView<AnyOf<S>> for UStr<'_, C> {
     ghost cut_at = { cut_at_any C.form S.has };
 
     ghost some_substrings = { λ separator us. between-some C.form (S.has separator.set) us };
+
+    ghost kept_at = { kept_at_any C.form S.has };
+
+    ghost kept_whole = { λ separator us. ended-whole C.form (S.has separator.set) us };
+
+    ghost some_kept = { λ separator us. ended-some C.form (S.has separator.set) us };
 
     fn cut_first(self, needle: AnyOf<S>) -> Option<(Self, Self)> {
         let Some((start, end)) = find_in_set(self.units, needle.set) else {

@@ -7,6 +7,8 @@ ghost use Rattle.wide_forms.specs.EncodingForm.{code_units};
 ghost use Rattle.wide_search.specs.Cut.{substrings};
 ghost use Rattle.wide_search.specs.Laws.Cuts.{some-substrings};
 ghost use Rattle.wide_search.specs.Substrings.{AreSubstrings};
+ghost use Rattle.wide_ustr.specs.Kept.{joined, substrings_kept, IsFirstKept};
+ghost use Rattle.wide_ustr.specs.KeptLaws.{kept-whole, kept-some};
 ghost use Rattle.wide_ustr.specs.Split.{substrings_left, unit_substrings_left, one_number, one_substrings_left, char_substrings_left};
 ghost use Rattle.wide_ustr.specs.View.{numbers_seen};
 
@@ -39,11 +41,22 @@ pub trait SplitView<P>: Copy {
     // There is at least one substring.
     ghost some_substrings: { (separator : P) (us : List ℕ) → 0 < length (cut_at separator us) };
 
+    // The substrings, each with the separator that ends it.
+    ghost kept_at: { P → List ℕ → List (List ℕ) };
+
+    // Joined, these are all units.
+    ghost kept_whole: { (separator : P) (us : List ℕ) → joined (kept_at separator us) ≡ us };
+
+    // There is at least one of them.
+    ghost some_kept: { (separator : P) (us : List ℕ) → 0 < length (kept_at separator us) };
+
     /// Splits the view at the first occurrence of the separator, into what is before it and what is after it. Returns
     /// `None` if the separator does not occur, or has no units.
     fn cut_first(self, needle: P) -> Option<(Self, Self)>
         ensures none { IfNone result (cut_at needle (numbers_seen self) ≡ numbers_seen self ∷ []) }
-        ensures some { IfSome result (λ r. cut_at needle (numbers_seen self) ≡ numbers_seen r.0 ∷ cut_at needle (numbers_seen r.1)) };
+        ensures some { IfSome result (λ r. cut_at needle (numbers_seen self) ≡ numbers_seen r.0 ∷ cut_at needle (numbers_seen r.1)) }
+        ensures kept_none { IfNone result (kept_at needle (numbers_seen self) ≡ numbers_seen self ∷ []) }
+        ensures kept_some { IfSome result (λ r. IsFirstKept (kept_at needle) (numbers_seen self) (numbers_seen r.0) (numbers_seen r.1)) };
 
     /// Returns whether the view has no units.
     fn has_no_units(self) -> bool
@@ -185,6 +198,12 @@ impl<'a, C: Unit> SplitView<UStr<'a, C>> for UStr<'_, C> {
 
     ghost some_substrings = { λ needle us. some-substrings (numbers_seen C.number needle) us };
 
+    ghost kept_at = { λ needle. substrings_kept (numbers_seen C.number needle) };
+
+    ghost kept_whole = { λ needle us. kept-whole (numbers_seen C.number needle) us };
+
+    ghost some_kept = { λ needle us. kept-some (numbers_seen C.number needle) us };
+
     fn cut_first(self, needle: UStr<'a, C>) -> Option<(Self, Self)> {
         if needle.is_empty() {
             return None;
@@ -209,6 +228,12 @@ impl<C: Unit> SplitView<OneUnit<C>> for UStr<'_, C> {
     ghost cut_at = { λ needle. substrings (one_number C.number needle) };
 
     ghost some_substrings = { λ needle us. some-substrings (one_number C.number needle) us };
+
+    ghost kept_at = { λ needle. substrings_kept (one_number C.number needle) };
+
+    ghost kept_whole = { λ needle us. kept-whole (one_number C.number needle) us };
+
+    ghost some_kept = { λ needle us. kept-some (one_number C.number needle) us };
 
     fn cut_first(self, needle: OneUnit<C>) -> Option<(Self, Self)> {
         let Some(at) = self.find_unit(needle.unit) else {
@@ -236,6 +261,12 @@ impl<C: Unit> SplitView<char> for UStr<'_, C> {
     ghost cut_at = { λ needle. substrings (code_units C.form needle) };
 
     ghost some_substrings = { λ needle us. some-substrings (code_units C.form needle) us };
+
+    ghost kept_at = { λ needle. substrings_kept (code_units C.form needle) };
+
+    ghost kept_whole = { λ needle us. kept-whole (code_units C.form needle) us };
+
+    ghost some_kept = { λ needle us. kept-some (code_units C.form needle) us };
 
     fn cut_first(self, c: char) -> Option<(Self, Self)> {
         let Some(at) = self.find_char(c) else {

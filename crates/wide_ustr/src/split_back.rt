@@ -1,23 +1,24 @@
 //! The substrings of a view from the back. A view that is read from its end is split from the front, by the same loops
 //! as any other.
 ghost use Rattle.std.specs.Prelude.{◌≡◌, ◌<◌, ◌≤◌, ◌+◌, ◌^◌, ◌∷◌, ℕ, List, [], length, map, reverse, None, IfNone, IfSome};
-ghost use Rattle.std.proofs.Common.{refl};
 ghost use Rattle.std.specs.Iterator.{YieldsFirstBy, at_most, UpTo};
 ghost use Rattle.std.specs.Iterator.SizeHint.{IsWithinCount};
 ghost use Rattle.wide_forms.specs.EncodingForm.{code_units};
 ghost use Rattle.wide_search.specs.Cut.{substrings};
 ghost use Rattle.wide_search.specs.Laws.Cuts.{some-substrings};
-ghost use Rattle.wide_ustr.specs.SplitBack.{substrings_back, rsplitn, seen_back, sought_back, rsplit_left, rsplitn_left, unit_rsplit_left, char_rsplit_left, unit_rsplitn_left, char_rsplitn_left};
+ghost use Rattle.wide_ustr.specs.Kept.{joined, limited, substrings_kept, IsFirstKept};
+ghost use Rattle.wide_ustr.specs.KeptLaws.{kept-whole, kept-some};
+ghost use Rattle.wide_ustr.specs.SplitBack.{substrings_back, rsplitn, seen_back, rsplit_left, rsplitn_left, unit_rsplit_left, char_rsplit_left, unit_rsplitn_left, char_rsplitn_left};
 ghost use Rattle.wide_ustr.specs.View.{units_seen, numbers_seen};
 
-use crate::split::{NeedleView, Split, SplitView};
+use crate::split::{Split, SplitView};
 use crate::split_n::SplitN;
 use crate::view::UStr;
 use std::iter::FusedIterator;
 use wide_from_units::byte_len;
 use wide_unit::Unit;
 
-/// A view that can be split at a separator from the back: at units, or at a character.
+/// A view that can be split at a separator from the back: at units, at a character, or at any character of a set.
 ///
 /// The Rust crate has no such trait. No call allocates.
 ///
@@ -30,12 +31,29 @@ use wide_unit::Unit;
 /// let parts = path.cut_last('/');
 /// assert!(rt; parts.is_some_and(|(folder, file)| folder.len() == 3 && file.len() == 1));
 /// ```
-pub trait BackView<P>: NeedleView<P> {
+pub trait BackView<P>: SplitView<P> {
+    // How units are split that are read from their end.
+    ghost cut_back: { P → List ℕ → List (List ℕ) };
+
+    // There is at least one substring.
+    ghost some_back: { (separator : P) (us : List ℕ) → 0 < length (cut_back separator us) };
+
+    // These substrings, each with the separator that ends it.
+    ghost kept_back: { P → List ℕ → List (List ℕ) };
+
+    // Joined, these are all units.
+    ghost kept_back_whole: { (separator : P) (us : List ℕ) → joined (kept_back separator us) ≡ us };
+
+    // There is at least one of them.
+    ghost some_kept_back: { (separator : P) (us : List ℕ) → 0 < length (kept_back separator us) };
+
     /// Splits the view at the last occurrence of the separator, into what is before it and what is after it. Returns
     /// `None` if the separator does not occur, or has no units.
     fn cut_last(self, needle: P) -> Option<(Self, Self)>
-        ensures none { IfNone result (substrings_back (Self.NeedleView.needle_numbers needle) (Self.NeedleView.numbers_seen self) ≡ Self.NeedleView.numbers_seen self ∷ []) }
-        ensures some { IfSome result (λ r. substrings_back (Self.NeedleView.needle_numbers needle) (Self.NeedleView.numbers_seen self) ≡ Self.NeedleView.numbers_seen r.1 ∷ substrings_back (Self.NeedleView.needle_numbers needle) (Self.NeedleView.numbers_seen r.0)) };
+        ensures none { IfNone result (cut_back needle (reverse (Self.SplitView.numbers_seen self)) ≡ reverse (Self.SplitView.numbers_seen self) ∷ []) }
+        ensures some { IfSome result (λ r. cut_back needle (reverse (Self.SplitView.numbers_seen self)) ≡ reverse (Self.SplitView.numbers_seen r.1) ∷ cut_back needle (reverse (Self.SplitView.numbers_seen r.0))) }
+        ensures kept_none { IfNone result (kept_back needle (reverse (Self.SplitView.numbers_seen self)) ≡ reverse (Self.SplitView.numbers_seen self) ∷ []) }
+        ensures kept_some { IfSome result (λ r. IsFirstKept (kept_back needle) (reverse (Self.SplitView.numbers_seen self)) (reverse (Self.SplitView.numbers_seen r.1)) (reverse (Self.SplitView.numbers_seen r.0))) };
 }
 
 // A view that is read from its end.
@@ -45,11 +63,17 @@ pub struct Back<V> {
 }
 
 impl<P: Copy, V: BackView<P>> SplitView<P> for Back<V> {
-    ghost numbers_seen = { seen_back V.numbers_seen V.needle_numbers };
+    ghost numbers_seen = { seen_back V.numbers_seen };
 
-    ghost cut_at = { λ needle. substrings (reverse (V.needle_numbers needle)) };
+    ghost cut_at = { V.cut_back };
 
-    ghost some_substrings = { λ needle us. some-substrings (reverse (V.needle_numbers needle)) us };
+    ghost some_substrings = { V.some_back };
+
+    ghost kept_at = { V.kept_back };
+
+    ghost kept_whole = { V.kept_back_whole };
+
+    ghost some_kept = { V.some_kept_back };
 
     fn cut_first(self, needle: P) -> Option<(Self, Self)> {
         let Some(parts) = self.view.cut_last(needle) else {
@@ -61,12 +85,6 @@ impl<P: Copy, V: BackView<P>> SplitView<P> for Back<V> {
     fn has_no_units(self) -> bool {
         self.view.has_no_units()
     }
-}
-
-impl<P: Copy, V: BackView<P>> NeedleView<P> for Back<V> {
-    ghost needle_numbers = { sought_back V.numbers_seen V.needle_numbers };
-
-    ghost cut_at_needle = { λ needle us. refl };
 }
 
 /// An iterator over the substrings of a view between the occurrences of a separator, from the back. Made by
@@ -89,7 +107,7 @@ impl<P: Copy, V: BackView<P>> RSplit<V, P> {
     /// Creates an iterator over the substrings of the view from the back. If the separator has no units, the whole view
     /// is the only substring.
     pub fn new(view: V, needle: P) -> Self
-        ensures { rsplit_left V.numbers_seen V.needle_numbers result ≡ substrings_back (V.needle_numbers needle) (V.numbers_seen view) }
+        ensures { rsplit_left V.numbers_seen V.cut_back result ≡ map reverse (V.cut_back needle (reverse (V.numbers_seen view))) }
     {
         RSplit {
             all: Split::new(Back { view }, needle),
@@ -100,9 +118,9 @@ impl<P: Copy, V: BackView<P>> RSplit<V, P> {
 impl<P: Copy, V: BackView<P>> Iterator for RSplit<V, P> {
     type Item = V;
 
-    ghost next_gives = { YieldsFirstBy V.numbers_seen (rsplit_left V.numbers_seen V.needle_numbers) };
+    ghost next_gives = { YieldsFirstBy V.numbers_seen (rsplit_left V.numbers_seen V.cut_back) };
 
-    ghost remaining = { λ s. at_most (length (rsplit_left V.numbers_seen V.needle_numbers s)) };
+    ghost remaining = { λ s. at_most (length (rsplit_left V.numbers_seen V.cut_back s)) };
 
     /// Returns the next substring. It reads the units from the back, vectorized, down to those of the separator that
     /// begins the substring, and may read some before them.
@@ -113,8 +131,8 @@ impl<P: Copy, V: BackView<P>> Iterator for RSplit<V, P> {
 
     /// Returns no bounds, since the number of substrings is unknown before the view is read.
     fn size_hint(&self) -> (usize, Option<usize>)
-        ensures lower { IsWithinCount result.0 (at_most (length (rsplit_left V.numbers_seen V.needle_numbers self.now))) }
-        ensures upper { IfSome result.1 (UpTo (at_most (length (rsplit_left V.numbers_seen V.needle_numbers self.now)))) }
+        ensures lower { IsWithinCount result.0 (at_most (length (rsplit_left V.numbers_seen V.cut_back self.now))) }
+        ensures upper { IfSome result.1 (UpTo (at_most (length (rsplit_left V.numbers_seen V.cut_back self.now)))) }
         ensures least { result.0 ≡ 0 }
         ensures most { result.1 ≡ None }
     {
@@ -145,7 +163,7 @@ impl<P: Copy, V: BackView<P>> RSplitN<V, P> {
     /// Creates an iterator over the last substrings of the view, at most `count`, from the back. The last one of that
     /// number is all that is left of the view. If the separator has no units, the whole view is the only substring.
     pub fn new(view: V, needle: P, count: usize) -> Self
-        ensures { rsplitn_left V.numbers_seen V.needle_numbers result ≡ rsplitn count (V.needle_numbers needle) (V.numbers_seen view) }
+        ensures { rsplitn_left V.numbers_seen V.cut_back V.kept_back result ≡ map reverse (limited count (V.cut_back needle (reverse (V.numbers_seen view))) (V.kept_back needle (reverse (V.numbers_seen view)))) }
     {
         RSplitN {
             all: SplitN::new(Back { view }, needle, count),
@@ -156,9 +174,9 @@ impl<P: Copy, V: BackView<P>> RSplitN<V, P> {
 impl<P: Copy, V: BackView<P>> Iterator for RSplitN<V, P> {
     type Item = V;
 
-    ghost next_gives = { YieldsFirstBy V.numbers_seen (rsplitn_left V.numbers_seen V.needle_numbers) };
+    ghost next_gives = { YieldsFirstBy V.numbers_seen (rsplitn_left V.numbers_seen V.cut_back V.kept_back) };
 
-    ghost remaining = { λ s. at_most (length (rsplitn_left V.numbers_seen V.needle_numbers s)) };
+    ghost remaining = { λ s. at_most (length (rsplitn_left V.numbers_seen V.cut_back V.kept_back s)) };
 
     /// Returns the next substring. It reads the units from the back, vectorized, down to those of the separator that
     /// begins the substring, and may read some before them. For the last one of the number it reads none.
@@ -169,8 +187,8 @@ impl<P: Copy, V: BackView<P>> Iterator for RSplitN<V, P> {
 
     /// Returns no bounds, since the number of substrings is unknown before the view is read.
     fn size_hint(&self) -> (usize, Option<usize>)
-        ensures lower { IsWithinCount result.0 (at_most (length (rsplitn_left V.numbers_seen V.needle_numbers self.now))) }
-        ensures upper { IfSome result.1 (UpTo (at_most (length (rsplitn_left V.numbers_seen V.needle_numbers self.now)))) }
+        ensures lower { IsWithinCount result.0 (at_most (length (rsplitn_left V.numbers_seen V.cut_back V.kept_back self.now))) }
+        ensures upper { IfSome result.1 (UpTo (at_most (length (rsplitn_left V.numbers_seen V.cut_back V.kept_back self.now)))) }
         ensures least { result.0 ≡ 0 }
         ensures most { result.1 ≡ None }
     {
@@ -181,6 +199,16 @@ impl<P: Copy, V: BackView<P>> Iterator for RSplitN<V, P> {
 impl<P: Copy, V: BackView<P>> FusedIterator for RSplitN<V, P> {}
 
 impl<'a, C: Unit> BackView<UStr<'a, C>> for UStr<'_, C> {
+    ghost cut_back = { λ needle. substrings (reverse (numbers_seen C.number needle)) };
+
+    ghost some_back = { λ needle us. some-substrings (reverse (numbers_seen C.number needle)) us };
+
+    ghost kept_back = { λ needle. substrings_kept (reverse (numbers_seen C.number needle)) };
+
+    ghost kept_back_whole = { λ needle us. kept-whole (reverse (numbers_seen C.number needle)) us };
+
+    ghost some_kept_back = { λ needle us. kept-some (reverse (numbers_seen C.number needle)) us };
+
     fn cut_last(self, needle: UStr<'a, C>) -> Option<(Self, Self)> {
         if needle.is_empty() {
             return None;
@@ -190,6 +218,16 @@ impl<'a, C: Unit> BackView<UStr<'a, C>> for UStr<'_, C> {
 }
 
 impl<C: Unit> BackView<char> for UStr<'_, C> {
+    ghost cut_back = { λ needle. substrings (reverse (code_units C.form needle)) };
+
+    ghost some_back = { λ needle us. some-substrings (reverse (code_units C.form needle)) us };
+
+    ghost kept_back = { λ needle. substrings_kept (reverse (code_units C.form needle)) };
+
+    ghost kept_back_whole = { λ needle us. kept-whole (reverse (code_units C.form needle)) us };
+
+    ghost some_kept_back = { λ needle us. kept-some (reverse (code_units C.form needle)) us };
+
     fn cut_last(self, c: char) -> Option<(Self, Self)> {
         let Some(at) = self.rfind_char(c) else {
             return None;

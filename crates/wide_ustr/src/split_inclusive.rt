@@ -4,16 +4,18 @@ ghost use Rattle.std.specs.Iterator.{YieldsFirstBy, YieldsLastBy, at_most, UpTo}
 ghost use Rattle.std.specs.Iterator.SizeHint.{IsWithinCount};
 ghost use Rattle.wide_forms.specs.EncodingForm.{code_units};
 ghost use Rattle.wide_search.specs.Cut.{substrings};
-ghost use Rattle.wide_ustr.specs.SplitInclusive.{inclusive, joined, inclusive_left, unit_inclusive_left, char_inclusive_left, IsCutAfter};
+ghost use Rattle.wide_ustr.specs.Kept.{joined};
+ghost use Rattle.wide_ustr.specs.SplitInclusive.{inclusive, inclusive_left, unit_inclusive_left, char_inclusive_left};
+ghost use Rattle.wide_ustr.specs.SplitMore.{terminated};
 ghost use Rattle.wide_ustr.specs.View.{units_seen, numbers_seen};
 
-use crate::split::NeedleView;
+use crate::split::SplitView;
 use crate::view::UStr;
 use std::iter::FusedIterator;
 use wide_from_units::byte_len;
 use wide_unit::Unit;
 
-/// A view that can be split after a separator: after units, or after a character.
+/// A view that can be split after a separator: after units, after a character, or after any character of a set.
 ///
 /// The Rust crate has no such trait. No call allocates.
 ///
@@ -26,15 +28,16 @@ use wide_unit::Unit;
 /// let parts = list.cut_after(';');
 /// assert!(rt; parts.is_some_and(|(first, rest)| first.len() == 2 && rest.len() == 1));
 /// ```
-pub trait InclusiveView<P>: NeedleView<P> {
+pub trait InclusiveView<P>: SplitView<P> {
     /// Splits the view after the first occurrence of the separator, into what ends with it and what is after it. Returns
     /// `None` if the separator does not occur, or has no units.
     fn cut_after(self, needle: P) -> Option<(Self, Self)>
-        ensures none { IfNone result (substrings (Self.NeedleView.needle_numbers needle) (Self.NeedleView.numbers_seen self) ≡ Self.NeedleView.numbers_seen self ∷ []) }
-        ensures some { IfSome result (λ r. IsCutAfter (Self.NeedleView.needle_numbers needle) (Self.NeedleView.numbers_seen self) (Self.NeedleView.numbers_seen r.0) (Self.NeedleView.numbers_seen r.1)) };
+        ensures none { IfNone result (Self.SplitView.kept_at needle (Self.SplitView.numbers_seen self) ≡ Self.SplitView.numbers_seen self ∷ []) }
+        ensures some { IfSome result (λ r. Self.SplitView.kept_at needle (Self.SplitView.numbers_seen self) ≡ Self.SplitView.numbers_seen r.0 ∷ Self.SplitView.kept_at needle (Self.SplitView.numbers_seen r.1)) };
 }
 
-/// A view that is split after a separator into the same substrings from either end: after a character.
+/// A view that is split after a separator into the same substrings from either end: after a character, or after any
+/// character of a set.
 ///
 /// The Rust crate has no such trait. No call allocates.
 ///
@@ -51,8 +54,8 @@ pub trait InclusiveBackView<P>: InclusiveView<P> {
     /// Cuts off the last substring, which ends with the separator if the view does. Returns what is before it, which
     /// ends with a separator, and the substring. Returns `None` if no separator is before it.
     fn cut_off_inclusive(self, needle: P) -> Option<(Self, Self)>
-        ensures none { IfNone result (inclusive (Self.InclusiveView.needle_numbers needle) (substrings (Self.InclusiveView.needle_numbers needle) (Self.InclusiveView.numbers_seen self)) ≡ inclusive (Self.InclusiveView.needle_numbers needle) (Self.InclusiveView.numbers_seen self ∷ [])) }
-        ensures some { IfSome result (λ r. inclusive (Self.InclusiveView.needle_numbers needle) (substrings (Self.InclusiveView.needle_numbers needle) (Self.InclusiveView.numbers_seen self)) ≡ inclusive (Self.InclusiveView.needle_numbers needle) (substrings (Self.InclusiveView.needle_numbers needle) (Self.InclusiveView.numbers_seen r.0)) ++ Self.InclusiveView.numbers_seen r.1 ∷ []) };
+        ensures none { IfNone result (terminated (Self.InclusiveView.kept_at needle (Self.InclusiveView.numbers_seen self)) ≡ terminated (Self.InclusiveView.numbers_seen self ∷ [])) }
+        ensures some { IfSome result (λ r. terminated (Self.InclusiveView.kept_at needle (Self.InclusiveView.numbers_seen self)) ≡ terminated (Self.InclusiveView.kept_at needle (Self.InclusiveView.numbers_seen r.0)) ++ Self.InclusiveView.numbers_seen r.1 ∷ []) };
 }
 
 /// An iterator over the substrings of a view that end after an occurrence of a separator or at the end, from the front.
@@ -77,7 +80,7 @@ pub struct SplitInclusive<V, P> {
 impl<P: Copy, V: InclusiveView<P>> SplitInclusive<V, P> {
     /// Creates an iterator over the substrings of the view with the separators after them.
     pub fn new(view: V, needle: P) -> Self
-        ensures { inclusive_left V.numbers_seen V.needle_numbers result ≡ inclusive (V.needle_numbers needle) (substrings (V.needle_numbers needle) (V.numbers_seen view)) }
+        ensures { inclusive_left V.numbers_seen V.kept_at result ≡ terminated (V.kept_at needle (V.numbers_seen view)) }
     {
         SplitInclusive {
             rest: Some(view),
@@ -89,9 +92,9 @@ impl<P: Copy, V: InclusiveView<P>> SplitInclusive<V, P> {
 impl<P: Copy, V: InclusiveView<P>> Iterator for SplitInclusive<V, P> {
     type Item = V;
 
-    ghost next_gives = { YieldsFirstBy V.numbers_seen (inclusive_left V.numbers_seen V.needle_numbers) };
+    ghost next_gives = { YieldsFirstBy V.numbers_seen (inclusive_left V.numbers_seen V.kept_at) };
 
-    ghost remaining = { λ s. at_most (length (inclusive_left V.numbers_seen V.needle_numbers s)) };
+    ghost remaining = { λ s. at_most (length (inclusive_left V.numbers_seen V.kept_at s)) };
 
     /// Returns the next substring. It reads the units, vectorized, up to those of the separator that ends the
     /// substring, and may read some after them.
@@ -110,8 +113,8 @@ impl<P: Copy, V: InclusiveView<P>> Iterator for SplitInclusive<V, P> {
 
     /// Returns no bounds, since the number of substrings is unknown before the view is read.
     fn size_hint(&self) -> (usize, Option<usize>)
-        ensures lower { IsWithinCount result.0 (at_most (length (inclusive_left V.numbers_seen V.needle_numbers self.now))) }
-        ensures upper { IfSome result.1 (UpTo (at_most (length (inclusive_left V.numbers_seen V.needle_numbers self.now)))) }
+        ensures lower { IsWithinCount result.0 (at_most (length (inclusive_left V.numbers_seen V.kept_at self.now))) }
+        ensures upper { IfSome result.1 (UpTo (at_most (length (inclusive_left V.numbers_seen V.kept_at self.now)))) }
         ensures least { result.0 ≡ 0 }
         ensures most { result.1 ≡ None }
     {
@@ -120,7 +123,7 @@ impl<P: Copy, V: InclusiveView<P>> Iterator for SplitInclusive<V, P> {
 }
 
 impl<P: Copy, V: InclusiveBackView<P>> DoubleEndedIterator for SplitInclusive<V, P> {
-    ghost next_back_gives = { YieldsLastBy V.numbers_seen (inclusive_left V.numbers_seen V.needle_numbers) };
+    ghost next_back_gives = { YieldsLastBy V.numbers_seen (inclusive_left V.numbers_seen V.kept_at) };
 
     /// Returns the last substring that is left. It reads the units from the back, down to those of the separator before
     /// the substring, and may read some before them.

@@ -5,10 +5,11 @@ ghost use Rattle.std.specs.Iterator.SizeHint.{IsWithinCount};
 ghost use Rattle.wide_forms.specs.EncodingForm.{code_units};
 ghost use Rattle.wide_search.specs.Cut.{substrings};
 ghost use Rattle.wide_search.specs.Substrings.{joined_with};
+ghost use Rattle.wide_ustr.specs.Kept.{limited};
 ghost use Rattle.wide_ustr.specs.SplitN.{splitn, splitn_left, unit_splitn_left, one_splitn_left, char_splitn_left};
 ghost use Rattle.wide_ustr.specs.View.{numbers_seen};
 
-use crate::split::{NeedleView, OneUnit};
+use crate::split::{OneUnit, SplitView};
 use crate::view::UStr;
 use std::iter::FusedIterator;
 use wide_unit::Unit;
@@ -33,11 +34,11 @@ pub struct SplitN<V, P> {
     cuts: usize,
 }
 
-impl<P: Copy, V: NeedleView<P>> SplitN<V, P> {
+impl<P: Copy, V: SplitView<P>> SplitN<V, P> {
     /// Creates an iterator over the first substrings of the view, at most `count`. The last one of that number is all
     /// that is left of the view. If the separator has no units, the whole view is the only substring.
     pub fn new(view: V, needle: P, count: usize) -> Self
-        ensures { splitn_left V.numbers_seen V.needle_numbers result ≡ splitn count (V.needle_numbers needle) (substrings (V.needle_numbers needle) (V.numbers_seen view)) }
+        ensures { splitn_left V.numbers_seen V.cut_at V.kept_at result ≡ limited count (V.cut_at needle (V.numbers_seen view)) (V.kept_at needle (V.numbers_seen view)) }
     {
         if count == 0 {
             return SplitN {
@@ -54,12 +55,12 @@ impl<P: Copy, V: NeedleView<P>> SplitN<V, P> {
     }
 }
 
-impl<P: Copy, V: NeedleView<P>> Iterator for SplitN<V, P> {
+impl<P: Copy, V: SplitView<P>> Iterator for SplitN<V, P> {
     type Item = V;
 
-    ghost next_gives = { YieldsFirstBy V.numbers_seen (splitn_left V.numbers_seen V.needle_numbers) };
+    ghost next_gives = { YieldsFirstBy V.numbers_seen (splitn_left V.numbers_seen V.cut_at V.kept_at) };
 
-    ghost remaining = { λ s. at_most (length (splitn_left V.numbers_seen V.needle_numbers s)) };
+    ghost remaining = { λ s. at_most (length (splitn_left V.numbers_seen V.cut_at V.kept_at s)) };
 
     /// Returns the next substring. It reads the units, vectorized, up to those of the separator that ends the
     /// substring, and may read some after them. For the last one of the number it reads none.
@@ -80,8 +81,8 @@ impl<P: Copy, V: NeedleView<P>> Iterator for SplitN<V, P> {
 
     /// Returns no bounds, since the number of substrings is unknown before the view is read.
     fn size_hint(&self) -> (usize, Option<usize>)
-        ensures lower { IsWithinCount result.0 (at_most (length (splitn_left V.numbers_seen V.needle_numbers self.now))) }
-        ensures upper { IfSome result.1 (UpTo (at_most (length (splitn_left V.numbers_seen V.needle_numbers self.now)))) }
+        ensures lower { IsWithinCount result.0 (at_most (length (splitn_left V.numbers_seen V.cut_at V.kept_at self.now))) }
+        ensures upper { IfSome result.1 (UpTo (at_most (length (splitn_left V.numbers_seen V.cut_at V.kept_at self.now)))) }
         ensures least { result.0 ≡ 0 }
         ensures most { result.1 ≡ None }
     {
@@ -89,7 +90,7 @@ impl<P: Copy, V: NeedleView<P>> Iterator for SplitN<V, P> {
     }
 }
 
-impl<P: Copy, V: NeedleView<P>> FusedIterator for SplitN<V, P> {}
+impl<P: Copy, V: SplitView<P>> FusedIterator for SplitN<V, P> {}
 
 impl<C: Unit> UStr<'_, C> {
     /// Returns an iterator over the first substrings between the occurrences of the separator, at most `count`, from

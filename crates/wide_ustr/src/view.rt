@@ -237,6 +237,13 @@ impl<'a, C: FaultUnit> UStr<'a, C> {
 
     /// Returns an iterator over the characters, from both ends. It yields an error for each unit that belongs to none
     /// (Unicode Standard, D84a).
+    ///
+    /// # Example
+    ///
+    /// ```
+    /// let units = U16Str::from_slice(&[0x48, 0xd83d, 0x69]);
+    /// assert!(rt; units.chars().filter(|item| item.is_err()).count() == 1);
+    /// ```
     pub fn chars(self) -> Chars<'a, C>
         ensures { items_left C.form C.number result ≡ items C.form (map C.number (units_seen self.entry)) }
     {

@@ -139,8 +139,8 @@ pub enum NulError<C, A: Allocator = Global> {
 impl<C, A: Allocator> NulError<C, A> {
     ghost use Rattle.wide_utferror.specs.NulError.{handed_back};
 
-    /// Returns the vector that was passed in, or the copy that was made of the units, or `None` if the call was for a
-    /// view or the units do not end in NUL.
+    /// Returns the vector that the error was made with. It is `None` for each error that this library makes, since only
+    /// calls for views do: calls for owned C strings return a [`UCStringError`].
     pub fn into_vec(self) -> Option<Vec<C, A>>
         ensures { result ≡ handed_back self }
     {

@@ -7,3 +7,4 @@ pub mod Split
 pub mod Pending
 pub mod Escapes
 pub mod Sets
+pub mod SetSplits

@@ -13,6 +13,7 @@ mod lines;
 mod matches;
 mod order;
 mod search;
+mod set_splits;
 mod sets;
 mod split;
 mod split_ends;

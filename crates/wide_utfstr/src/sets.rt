@@ -7,7 +7,8 @@ ghost use Rattle.wide_forms.specs.Items.{items, chars};
 ghost use Rattle.wide_forms.specs.Offsets.{IsCharBoundary};
 ghost use Rattle.wide_search.specs.Laws.Sets.{between-some};
 ghost use Rattle.wide_search.specs.Sets.{is_member, between, substrings_between, without_prefix, without_suffix, without_ends, IsFirstMember};
-ghost use Rattle.wide_ustr.specs.Sets.{cut_at_any};
+ghost use Rattle.wide_ustr.specs.KeptLaws.{ended-whole, ended-some};
+ghost use Rattle.wide_ustr.specs.Sets.{cut_at_any, kept_at_any};
 ghost use Rattle.wide_ustr.specs.SplitMore.{filled};
 ghost use Rattle.wide_utfstr.specs.Sets.{any_substrings_left, any_filled_left};
 ghost use Rattle.wide_utfstr.specs.View.{units_seen, numbers_seen, text_seen};
@@ -26,6 +27,12 @@ impl<C: Unit, S: CharSet> SplitView<AnyOf<S>> for UtfStr<'_, C> {
     ghost cut_at = { cut_at_any C.form S.has };
 
     ghost some_substrings = { λ separator us. between-some C.form (S.has separator.set) us };
+
+    ghost kept_at = { kept_at_any C.form S.has };
+
+    ghost kept_whole = { λ separator us. ended-whole C.form (S.has separator.set) us };
+
+    ghost some_kept = { λ separator us. ended-some C.form (S.has separator.set) us };
 
     fn cut_first(self, needle: AnyOf<S>) -> Option<(Self, Self)> {
         let Some((start, end)) = find_in_set(self.as_slice(), needle.set) else {

@@ -5,6 +5,8 @@ ghost use Rattle.wide_forms.specs.EncodingForm.{code_units};
 ghost use Rattle.wide_search.specs.Cut.{substrings};
 ghost use Rattle.wide_search.specs.Laws.Cuts.{some-substrings};
 ghost use Rattle.wide_search.specs.Substrings.{AreSubstrings, joined_with};
+ghost use Rattle.wide_ustr.specs.Kept.{substrings_kept};
+ghost use Rattle.wide_ustr.specs.KeptLaws.{kept-whole, kept-some};
 ghost use Rattle.wide_ustr.specs.SplitMore.{terminated};
 ghost use Rattle.wide_ustr.specs.SplitN.{splitn};
 ghost use Rattle.wide_utfstr.specs.Split.{text_substrings_left, char_substrings_left, text_splitn_left, char_splitn_left, text_terminated_left, char_terminated_left};
@@ -164,6 +166,12 @@ impl<'a, C: Unit> SplitView<UtfStr<'a, C>> for UtfStr<'_, C> {
 
     ghost some_substrings = { λ needle us. some-substrings (numbers_seen C.number needle) us };
 
+    ghost kept_at = { λ needle. substrings_kept (numbers_seen C.number needle) };
+
+    ghost kept_whole = { λ needle us. kept-whole (numbers_seen C.number needle) us };
+
+    ghost some_kept = { λ needle us. kept-some (numbers_seen C.number needle) us };
+
     fn cut_first(self, needle: UtfStr<'a, C>) -> Option<(Self, Self)> {
         if needle.is_empty() {
             return None;
@@ -188,6 +196,12 @@ impl<C: Unit> SplitView<char> for UtfStr<'_, C> {
     ghost cut_at = { λ needle. substrings (code_units C.form needle) };
 
     ghost some_substrings = { λ needle us. some-substrings (code_units C.form needle) us };
+
+    ghost kept_at = { λ needle. substrings_kept (code_units C.form needle) };
+
+    ghost kept_whole = { λ needle us. kept-whole (code_units C.form needle) us };
+
+    ghost some_kept = { λ needle us. kept-some (code_units C.form needle) us };
 
     fn cut_first(self, c: char) -> Option<(Self, Self)> {
         let Some(at) = self.find_char(c) else {

@@ -1,9 +1,12 @@
 //! Well-formed text split at a separator from the back, or after it.
-ghost use Rattle.std.specs.Prelude.{◌≡◌, ◌+◌, ◌∷◌, [], ◌≤◌, ◌<◌, ◌^◌, length};
+ghost use Rattle.std.specs.Prelude.{◌≡◌, ◌+◌, ◌∷◌, [], ◌≤◌, ◌<◌, ◌^◌, length, reverse};
 ghost use Rattle.wide_forms.specs.EncodingForm.{code_units};
 ghost use Rattle.wide_search.specs.Cut.{substrings};
+ghost use Rattle.wide_search.specs.Laws.Cuts.{some-substrings};
+ghost use Rattle.wide_ustr.specs.Kept.{joined, substrings_kept};
+ghost use Rattle.wide_ustr.specs.KeptLaws.{kept-whole, kept-some};
 ghost use Rattle.wide_ustr.specs.SplitBack.{substrings_back, rsplitn};
-ghost use Rattle.wide_ustr.specs.SplitInclusive.{inclusive, joined};
+ghost use Rattle.wide_ustr.specs.SplitInclusive.{inclusive};
 ghost use Rattle.wide_utfstr.specs.Split.{text_rsplit_left, char_rsplit_left, text_rsplitn_left, char_rsplitn_left, text_inclusive_left, char_inclusive_left};
 ghost use Rattle.wide_utfstr.specs.View.{units_seen, numbers_seen};
 
@@ -13,6 +16,16 @@ use wide_unit::Unit;
 use wide_ustr::{BackView, InclusiveView, RSplit, RSplitN, SplitInclusive};
 
 impl<'a, C: Unit> BackView<UtfStr<'a, C>> for UtfStr<'_, C> {
+    ghost cut_back = { λ needle. substrings (reverse (numbers_seen C.number needle)) };
+
+    ghost some_back = { λ needle us. some-substrings (reverse (numbers_seen C.number needle)) us };
+
+    ghost kept_back = { λ needle. substrings_kept (reverse (numbers_seen C.number needle)) };
+
+    ghost kept_back_whole = { λ needle us. kept-whole (reverse (numbers_seen C.number needle)) us };
+
+    ghost some_kept_back = { λ needle us. kept-some (reverse (numbers_seen C.number needle)) us };
+
     fn cut_last(self, needle: UtfStr<'a, C>) -> Option<(Self, Self)> {
         if needle.is_empty() {
             return None;
@@ -22,6 +35,16 @@ impl<'a, C: Unit> BackView<UtfStr<'a, C>> for UtfStr<'_, C> {
 }
 
 impl<C: Unit> BackView<char> for UtfStr<'_, C> {
+    ghost cut_back = { λ needle. substrings (reverse (code_units C.form needle)) };
+
+    ghost some_back = { λ needle us. some-substrings (reverse (code_units C.form needle)) us };
+
+    ghost kept_back = { λ needle. substrings_kept (reverse (code_units C.form needle)) };
+
+    ghost kept_back_whole = { λ needle us. kept-whole (reverse (code_units C.form needle)) us };
+
+    ghost some_kept_back = { λ needle us. kept-some (reverse (code_units C.form needle)) us };
+
     fn cut_last(self, c: char) -> Option<(Self, Self)> {
         let Some(at) = self.rfind_char(c) else {
             return None;

@@ -18,6 +18,14 @@ impl<C: Unit> UtfStr<'_, C> {
     /// # Errors
     ///
     /// [`OutOfMemory`] if the allocation fails. It never fails if there are no units.
+    ///
+    /// # Example
+    ///
+    /// ```
+    /// let text = Utf16Str::from_slice(&[0xe9, 0xd83d, 0xde00])?;
+    /// let text = text.to_string(rt.alloc())?;
+    /// assert!(rt; text.as_str() == "é😀");
+    /// ```
     pub fn to_string<A: Allocator>(self, alloc: A) -> Result<String<A>, OutOfMemory>
         ensures text { IfOk result (λ text. string_bytes text ≡ utf8 (text_seen self.entry)) }
         ensures succeeds { units_seen self.entry ≡ [] → IsOk result }

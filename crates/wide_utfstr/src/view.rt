@@ -411,6 +411,14 @@ impl<'a, C: FaultUnit> UtfStr<'a, C> {
     ///
     /// The first fault, if the units are ill-formed. Its index is counted in units, its item number in characters. The
     /// error holds no vector.
+    ///
+    /// # Example
+    ///
+    /// ```
+    /// let text = Utf16Str::from_ustr(U16Str::from_slice(&[0xd83d, 0xde00]))?;
+    /// assert!(rt; text.eq_str("😀"));
+    /// assert!(rt; Utf16Str::from_ustr(U16Str::from_slice(&[0xd83d])).is_err());
+    /// ```
     pub fn from_ustr(view: UStr<'a, C>) -> Result<Self, UtfError<C>>
         ensures view { IfOk result (λ text. units_seen text ≡ ustr_units view.entry) }
         ensures ok { OnOk result (IsWellFormed C.form (map C.number (ustr_units view.entry))) }
@@ -441,6 +449,14 @@ impl<'a, C: FaultUnit> UtfStr<'a, C> {
     ///
     /// The first fault, if the contents are ill-formed. Its index is counted in units, its item number in characters.
     /// The error holds no vector.
+    ///
+    /// # Example
+    ///
+    /// ```
+    /// let name = U16CStr::from_slice(&[0x48, 0x69, 0])?;
+    /// let text = Utf16Str::from_ucstr(name)?;
+    /// assert!(rt; text.eq_str("Hi"));
+    /// ```
     pub fn from_ucstr(view: UCStr<'a, C>) -> Result<Self, UtfError<C>>
         ensures view { IfOk result (λ text. units_seen text ≡ contents_seen view.entry) }
         ensures ok { OnOk result (IsWellFormed C.form (map C.number (contents_seen view.entry))) }

@@ -142,6 +142,14 @@ impl<C: FaultUnit, A: Allocator> UtfString<C, A> {
     ///
     /// The first fault, if the units are ill-formed. Its index is counted in units, its item number in characters. The
     /// error holds the string's vector, with its units and its capacity.
+    ///
+    /// # Example
+    ///
+    /// ```
+    /// let units = U16String::from_str(rt.alloc(), "é😀")?;
+    /// let text = Utf16String::from_ustring(units)?;
+    /// assert!(rt; text.as_utfstr().eq_str("é😀"));
+    /// ```
     pub fn from_ustring(string: UString<C, A>) -> Result<Self, UtfError<C, A>>
         ensures string { IfOk result (λ s. s ≡ string) }
         ensures ok { OnOk result (IsWellFormed C.form (map C.number string.units)) }
@@ -299,6 +307,14 @@ impl<C: FaultUnit, A: Allocator> UtfString<C, A> {
     }
 
     /// Returns the units as a string that may be ill-formed, without allocating.
+    ///
+    /// # Example
+    ///
+    /// ```
+    /// let text = Utf16String::from_str(rt.alloc(), "😀")?;
+    /// let units = text.into_ustring();
+    /// assert!(rt; units.as_slice() == [0xd83d, 0xde00].as_slice());
+    /// ```
     pub fn into_ustring(self) -> UString<C, A>
         ensures string { result ≡ self }
         ensures well_formed { IsWellFormed C.form (map C.number result.units) }

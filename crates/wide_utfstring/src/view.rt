@@ -54,6 +54,16 @@ pub trait UtfStrInUtfstring<C: FaultUnit> {
     ///
     /// [`OutOfMemory`] if the allocation fails, or if the new length in units exceeds `usize::MAX`. It never fails if
     /// `count` is 0 or the text is empty.
+    ///
+    /// # Example
+    ///
+    /// ```
+    /// use widestring::utfstring::UtfStrInUtfstring;
+    ///
+    /// let text = Utf16Str::from_slice(&[0xd83d, 0xde00])?;
+    /// let twice = text.repeat(rt.alloc(), 2)?;
+    /// assert!(rt; twice.as_utfstr().eq_str("😀😀"));
+    /// ```
     fn repeat<A: Allocator>(self, alloc: A, count: usize) -> Result<UtfString<C, A>, OutOfMemory>
         ensures units { IfOk result (λ s. s.units ≡ repeat count (text self)) }
         ensures succeeds { count ≡ 0 → IsOk result }

@@ -50,6 +50,7 @@ pub use Rattle.wide_ustr.specs.LossyWith as UnitLossyWith
 pub use Rattle.wide_ustr.specs.Lines as LinesLeft
 pub use Rattle.wide_ustr.specs.LineIndices
 pub use Rattle.wide_ustr.specs.Split
+pub use Rattle.wide_ustr.specs.Kept
 pub use Rattle.wide_ustr.specs.SplitN
 pub use Rattle.wide_ustr.specs.SplitMore
 pub use Rattle.wide_ustr.specs.SplitBack
@@ -57,6 +58,7 @@ pub use Rattle.wide_ustr.specs.SplitInclusive
 pub use Rattle.wide_ustr.specs.Matched
 pub use Rattle.wide_ustr.specs.MatchesLeft
 pub use Rattle.wide_ustr.specs.Sets as UnitSets
+pub use Rattle.wide_ustr.specs.SetSplits as UnitSetSplits
 pub use Rattle.wide_ustr.specs.Printed
 pub use Rattle.wide_ustring.specs.Units
 pub use Rattle.wide_ustring.specs.CowUnits
@@ -75,6 +77,7 @@ pub use Rattle.wide_utfstr.specs.View
 pub use Rattle.wide_utfstr.specs.Iter
 pub use Rattle.wide_utfstr.specs.Split as TextSplit
 pub use Rattle.wide_utfstr.specs.Sets as TextSets
+pub use Rattle.wide_utfstr.specs.SetSplits as TextSetSplits
 pub use Rattle.wide_utfstr.specs.Boundaries
 pub use Rattle.wide_utfstr.specs.Indexed
 pub use Rattle.wide_utfstr.specs.Trim

@@ -5,13 +5,14 @@ use Rattle.wide_search.specs.Laws.Numbers.{first-numbers}
 use Rattle.wide_search.proofs.Offsets.{no-units, some-units}
 use Rattle.wide_ustr.specs.View.{units_seen}
 use Rattle.wide_ustr.proofs.Inclusive.{cut-after}
+use Rattle.wide_ustr.proofs.KeptCuts.{kept-none}
 use Rattle.wide_ustr.proofs.split_inclusive.UStrInclusiveView.cut_after.Goals as goal
 
 pub returns-then-is_empty-clause-none : goal.returns-then-is_empty-clause-none
-returns-then-is_empty-clause-none g c = substrings-empty g.C.Unit.number g.met.C.Unit.same (units_seen c.args.needle) (units_seen c.args.self) (no-units (units_seen c.args.needle) c.if-is_empty.ensures)
+returns-then-is_empty-clause-none g c = kept-none _ _ _ (substrings-empty g.C.Unit.number g.met.C.Unit.same (units_seen c.args.needle) (units_seen c.args.self) (no-units (units_seen c.args.needle) c.if-is_empty.ensures))
 
 pub returns-in_default-clause-none : goal.returns-in_default-clause-none
-returns-in_default-clause-none g c = substrings-nowhere g.C.Unit.number g.met.C.Unit.same (units_seen c.args.needle) (units_seen c.args.self) c.in_default.ensures.none
+returns-in_default-clause-none g c = kept-none _ _ _ (substrings-nowhere g.C.Unit.number g.met.C.Unit.same (units_seen c.args.needle) (units_seen c.args.self) c.in_default.ensures.none)
 
 pub returns-clause-some : goal.returns-clause-some
 returns-clause-some g c =

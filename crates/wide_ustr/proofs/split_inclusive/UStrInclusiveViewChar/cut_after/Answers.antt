@@ -4,10 +4,11 @@ use Rattle.wide_forms.specs.Laws.Forms.{some_units}
 use Rattle.wide_search.specs.Laws.Cuts.{substrings-none}
 use Rattle.wide_ustr.specs.View.{units_seen}
 use Rattle.wide_ustr.proofs.Inclusive.{cut-after}
+use Rattle.wide_ustr.proofs.KeptCuts.{kept-none}
 use Rattle.wide_ustr.proofs.split_inclusive.UStrInclusiveViewChar.cut_after.Goals as goal
 
 pub returns-in_default-clause-none : goal.returns-in_default-clause-none
-returns-in_default-clause-none g c = substrings-none (code_units g.C.Unit.form c.args.c) (map g.C.Unit.number (units_seen c.args.self)) c.in_default.ensures.none
+returns-in_default-clause-none g c = kept-none _ _ _ (substrings-none (code_units g.C.Unit.form c.args.c) (map g.C.Unit.number (units_seen c.args.self)) c.in_default.ensures.none)
 
 pub returns-clause-some : goal.returns-clause-some
 returns-clause-some g c =

@@ -4,17 +4,21 @@ use Rattle.wide_ustr.specs.SplitInclusive.{joined}
 use Rattle.wide_ustr.specs.View.{units_seen}
 use Rattle.wide_ustr.proofs.Inclusive.{inclusive-whole, length-inclusive}
 use Rattle.wide_ustr.proofs.SubstringCounts.{few_units, substrings-most}
+use Rattle.wide_ustr.proofs.Inclusive.{inclusive-kept}
 use Rattle.wide_ustr.proofs.view.UStr.split_inclusive.Goals as goal
 
+pub returns-clause-left : goal.returns-clause-left
+returns-clause-left g c = c.new.ensures ∙ inclusive-kept (map g.C.Unit.number (units_seen c.args.needle)) (map g.C.Unit.number (units_seen c.args.self))
+
 pub returns-clause-joined : goal.returns-clause-joined
-returns-clause-joined g c = ap joined c.new.ensures ∙ inclusive-whole (map g.C.Unit.number (units_seen c.args.needle)) (map g.C.Unit.number (units_seen c.args.self))
+returns-clause-joined g c = ap joined (returns-clause-left g c) ∙ inclusive-whole (map g.C.Unit.number (units_seen c.args.needle)) (map g.C.Unit.number (units_seen c.args.self))
 
 pub returns-clause-most : goal.returns-clause-most
 returns-clause-most g c =
     let needle = map g.C.Unit.number (units_seen c.args.needle) in
-    omega (arith, ap length c.new.ensures, length-inclusive needle (substrings needle (map g.C.Unit.number (units_seen c.args.self))), substrings-most g.C.Unit.number needle (units_seen c.args.self))
+    omega (arith, ap length (returns-clause-left g c), length-inclusive needle (substrings needle (map g.C.Unit.number (units_seen c.args.self))), substrings-most g.C.Unit.number needle (units_seen c.args.self))
 
 pub returns-clause-fits : goal.returns-clause-fits
 returns-clause-fits g c =
     let needle = map g.C.Unit.number (units_seen c.args.needle) in
-    omega (arith, ap length c.new.ensures, length-inclusive needle (substrings needle (map g.C.Unit.number (units_seen c.args.self))), substrings-most g.C.Unit.number needle (units_seen c.args.self), few_units g.C.Unit.form (length (units_seen c.args.self)) c.byte_len-bytes.result c.byte_len-bytes.ensures.len c.byte_len-bytes.ensures.bound)
+    omega (arith, ap length (returns-clause-left g c), length-inclusive needle (substrings needle (map g.C.Unit.number (units_seen c.args.self))), substrings-most g.C.Unit.number needle (units_seen c.args.self), few_units g.C.Unit.form (length (units_seen c.args.self)) c.byte_len-bytes.result c.byte_len-bytes.ensures.len c.byte_len-bytes.ensures.bound)

@@ -3,6 +3,7 @@ use Rattle.wide_forms.specs.EncodingForm.{code_units}
 use Rattle.wide_forms.specs.Laws.Forms.{some_units}
 use Rattle.wide_search.specs.Laws.Cuts.{substrings-none, substrings-first, split-at}
 use Rattle.wide_utfstr.specs.View.{units_seen}
+use Rattle.wide_ustr.proofs.KeptCuts.{kept-none, kept-next}
 use Rattle.wide_utfstr.proofs.split.UtfStrSplitViewChar.cut_first.Goals as goal
 
 pub returns-in_default-clause-none : goal.returns-in_default-clause-none
@@ -17,3 +18,9 @@ returns-clause-some g c =
     let rest = units_seen c.split_at-2.result.1 in
     let split = split-at number needle us prefix rest c.in-Some.at c.char_len.result c.char_len.ensures.value c.in-Some.ensures.first c.split_at.ensures.prefix c.split_at-2.ensures.back in
     substrings-first needle (map number us) (map number prefix) (map number rest) (some_units g.C.Unit.form c.args.c) split
+
+pub returns-in_default-clause-kept_none : goal.returns-in_default-clause-kept_none
+returns-in_default-clause-kept_none g c = kept-none _ _ _ (returns-in_default-clause-none g c)
+
+pub returns-clause-kept_some : goal.returns-clause-kept_some
+returns-clause-kept_some g c = kept-next _ _ _ _ (returns-clause-some g c)

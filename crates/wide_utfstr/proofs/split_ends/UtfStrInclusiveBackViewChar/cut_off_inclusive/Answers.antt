@@ -5,6 +5,7 @@ use Rattle.wide_forms.specs.Laws.Forms.{some_units}
 use Rattle.wide_search.specs.Occurrences.{IsLastAt, OccursNowhere}
 use Rattle.wide_ustr.specs.View.{units_seen as units_of_view}
 use Rattle.wide_ustr.proofs.BothEnds.{char-apart}
+use Rattle.wide_ustr.proofs.Inclusive.{inclusive-only-kept, inclusive-rest-kept}
 use Rattle.wide_ustr.proofs.InclusiveEnds.{inclusive-only, inclusive-rest}
 use Rattle.wide_utfstr.specs.View.{units_seen}
 use Rattle.wide_utfstr.proofs.Matched.{boundary-after_last}
@@ -25,8 +26,9 @@ returns-in_default-clause-none g c =
     let body = units_of_view c.split_at.result.0 in
     let same : units_of_view c.from_slice-units.result ≡ us = search rules in
     let is_body : body ≡ take c.saturating_sub.result us = c.split_at.ensures.prefix ∙ ap (take c.saturating_sub.result) same in
-    inclusive-only g.C.Unit.number (code_units g.C.Unit.form c.args.c) us body c.saturating_sub.result (some_units g.C.Unit.form c.args.c) is_body
-    (omega (arith, c.saturating_sub.ensures, c.len.ensures, ap length same)) c.in_default.ensures.none
+    inclusive-only-kept (code_units g.C.Unit.form c.args.c) (map g.C.Unit.number us)
+    (inclusive-only g.C.Unit.number (code_units g.C.Unit.form c.args.c) us body c.saturating_sub.result (some_units g.C.Unit.form c.args.c) is_body
+    (omega (arith, c.saturating_sub.ensures, c.len.ensures, ap length same)) c.in_default.ensures.none)
 
 pub returns-clause-some : goal.returns-clause-some
 returns-clause-some g c =
@@ -34,6 +36,7 @@ returns-clause-some g c =
     let body = units_of_view c.split_at.result.0 in
     let same : units_of_view c.from_slice-units.result ≡ us = search rules in
     let is_body : body ≡ take c.saturating_sub.result us = c.split_at.ensures.prefix ∙ ap (take c.saturating_sub.result) same in
-    inclusive-rest g.C.Unit.number (code_units g.C.Unit.form c.args.c) us body c.saturating_sub.result (some_units g.C.Unit.form c.args.c) is_body
+    inclusive-rest-kept (code_units g.C.Unit.form c.args.c) (map g.C.Unit.number us) (map g.C.Unit.number (units_seen c.split_at-2.result.0)) (map g.C.Unit.number (units_seen c.split_at-2.result.1))
+    (inclusive-rest g.C.Unit.number (code_units g.C.Unit.form c.args.c) us body c.saturating_sub.result (some_units g.C.Unit.form c.args.c) is_body
     (omega (arith, c.saturating_sub.ensures, c.len.ensures, ap length same)) (units_seen c.split_at-2.result.0) (units_seen c.split_at-2.result.1) c.in-Some.at c.char_len.result
-    (char-apart g.C.Unit.form c.args.c c.ranges.c.0) c.char_len.ensures.value c.in-Some.ensures.last c.split_at-2.ensures.prefix c.split_at-2.ensures.back
+    (char-apart g.C.Unit.form c.args.c c.ranges.c.0) c.char_len.ensures.value c.in-Some.ensures.last c.split_at-2.ensures.prefix c.split_at-2.ensures.back)
