@@ -80,6 +80,66 @@ fn race(name: &str, units: &[u16], needle: &[u16]) {
     println!();
 }
 
+/// Returns this many units of the Fibonacci word, whose prefixes occur again as often as they can without a period.
+fn fibonacci(length: usize) -> Vec<u16> {
+    let (mut before, mut units) = (text("b"), text("a"));
+    while units.len() < length {
+        let longer = [units.as_slice(), before.as_slice()].concat();
+        before = std::mem::replace(&mut units, longer);
+    }
+    units.truncate(length);
+    units
+}
+
+/// Returns units, and one more.
+fn then(units: &[u16], unit: u16) -> Vec<u16> {
+    [units, &[unit]].concat()
+}
+
+/// Returns a unit, and then units.
+fn after(unit: u16, units: &[u16]) -> Vec<u16> {
+    [&[unit], units].concat()
+}
+
+/// Prints the library's time for a long needle, as multiples of `memmem`'s and of its own time for an ordinary text.
+fn race_long(name: &str, units: &[u16], needle: &[u16], ordinary: Option<f64>) -> f64 {
+    let offset = memmem(units, needle);
+    let mut runners = vec![
+        clock::round(1, || find(black_box(units), black_box(needle)) == offset),
+        clock::round(1, || memmem(black_box(units), black_box(needle)) == offset),
+    ];
+    let times = clock::best_times(12, &mut runners);
+    print!("{name:<44} {:>9} units {:>12.0} ns ", units.len(), times[0]);
+    println!(" {:.2} {:.2}", times[0] / times[1], times[0] / ordinary.unwrap_or(times[0]));
+    times[0]
+}
+
+/// Races a needle of 10,000 units in a text of a million that are made so that much of it occurs at many offsets.
+fn long_needles() {
+    const LENGTH: usize = 1_000_000;
+    const NEEDLE: usize = 10_000;
+    println!("a needle of {NEEDLE} units: the library's time, and it as a multiple of memmem's and of the ordinary text's");
+    let ordinary_text = words(LENGTH);
+    let absent = then(&ordinary_text[1000..1000 + NEEDLE - 1], 0x3042);
+    let ordinary = race_long("words, and a unit that is not there", &ordinary_text, &absent, None);
+    let other = then(&ordinary_text[LENGTH / 2..LENGTH / 2 + NEEDLE - 1], 0x7b);
+    race_long("words, and another last unit", &ordinary_text, &other, Some(ordinary));
+    let alike = vec![0x61; LENGTH];
+    race_long("one unit everywhere, and another last unit", &alike, &then(&alike[..NEEDLE - 1], 0x62), Some(ordinary));
+    race_long("another first unit, and one unit everywhere", &alike, &after(0x62, &alike[..NEEDLE - 1]), Some(ordinary));
+    let half = [&alike[..NEEDLE / 2], &[0x62], &alike[..NEEDLE / 2 - 1]].concat();
+    race_long("another unit in the middle", &alike, &half, Some(ordinary));
+    let nearly = [&alike[..NEEDLE - 1], &[0x62]].concat().repeat(LENGTH / NEEDLE);
+    race_long("a unit that is late once in each 10,000", &nearly, &alike[..NEEDLE], Some(ordinary));
+    let pattern = text("abcdefgh").repeat(LENGTH / 8);
+    race_long("eight units repeated, and another last unit", &pattern, &then(&pattern[..NEEDLE - 1], 0x7a), Some(ordinary));
+    let woven = fibonacci(LENGTH);
+    race_long("the Fibonacci word, and another last unit", &woven, &then(&woven[..NEEDLE - 1], 0x7a), Some(ordinary));
+    race_long("the Fibonacci word, and another first unit", &woven, &after(0x7a, &woven[..NEEDLE - 1]), Some(ordinary));
+    let turned: Vec<u16> = woven[..NEEDLE].iter().rev().copied().collect();
+    race_long("the Fibonacci word from its end", &woven, &after(0x61, &turned), Some(ordinary));
+}
+
 fn main() {
     println!("the library's time, and it as multiples of those of std (position, windows), memchr (memmem over the bytes)");
     for length in [8 << 10, 32 << 20] {
@@ -93,4 +153,5 @@ fn main() {
         hostile.push(0x62);
         race("a needle whose prefix is everywhere", &alike, &hostile);
     }
+    long_needles();
 }

@@ -3,10 +3,9 @@ use Rattle.std.proofs.Common.{◌≡◌, ℕ, zero, suc, ◌+◌, ◌-◌, ◌*�
 use Rattle.std.specs.Prelude.{Result, Ok, Err, OnOk, OnErr, IfOk, min}
 use native.Mathlib.Numerals.{unary_clauses}
 use Rattle.std.proofs.lemmas.List.{append_assoc}
-use Rattle.wide_search.specs.Cut.{substrings, substrings-are, substrings-whole}
-use Rattle.wide_search.specs.Substrings.{AreSubstrings, joined_with}
+use Rattle.wide_search.specs.Cut.{substrings}
+use Rattle.wide_search.specs.Substrings.{joined_with}
 use Rattle.wide_search.specs.Laws.Cuts.{substrings-at_most}
-use Rattle.wide_search.specs.Laws.Occurrences.{substrings-joined}
 use Rattle.wide_search.specs.Laws.Cuts.{some-substrings}
 use Rattle.wide_ustr.specs.KeptLaws.{whole-joined}
 use Rattle.wide_replace.specs.Replaced.{joined_first}
@@ -15,7 +14,7 @@ joined_alone : (left : ℕ) (with needle rest : List ℕ) → joined_first left 
 joined_alone zero with needle rest = refl
 joined_alone (suc left) with needle rest = refl
 
-joined_next : (left : ℕ) (with needle part : List ℕ) (parts : List (List ℕ)) → 0 < length parts → joined_first (suc left) with needle (part ∷ parts) ≡ part ++ (with ++ joined_first left with needle parts)
+pub joined_next : (left : ℕ) (with needle part : List ℕ) (parts : List (List ℕ)) → 0 < length parts → joined_first (suc left) with needle (part ∷ parts) ≡ part ++ (with ++ joined_first left with needle parts)
 joined_next left with needle part [] some = absurd (omega (arith, some))
 joined_next left with needle part (next ∷ more) some = refl
 

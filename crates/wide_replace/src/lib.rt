@@ -2,10 +2,12 @@
 //! (`replaced.rt`).
 #![tactic(auto)]
 
+mod c_strings;
 mod kinds;
 mod replaced;
 mod text;
 mod units;
 
+pub use c_strings::UCStrReplace;
 pub use text::UtfStrReplace;
 pub use units::UStrReplace;

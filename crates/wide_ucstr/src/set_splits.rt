@@ -1,6 +1,6 @@
 //! The contents of C strings that are split at the characters of a set: from the back, after each of them, and into at
 //! most a number of substrings.
-ghost use Rattle.std.specs.Prelude.{◌≡◌, ◌<◌, ◌≤◌, ◌+◌, ◌^◌, ◌∷◌, [], length, map};
+ghost use Rattle.std.specs.Prelude.{◌≡◌, ◌<◌, ◌≤◌, ◌+◌, ◌^◌, ◌∷◌, [], length, map, reverse};
 ghost use Rattle.wide_search.specs.Sets.{substrings_between};
 ghost use Rattle.wide_ucstr.specs.View.{contents_seen};
 ghost use Rattle.wide_ustr.specs.Kept.{joined, substrings_ended};
@@ -14,8 +14,8 @@ use wide_utferror::FaultUnit;
 
 impl<'a, C: FaultUnit> UCStr<'a, C> {
     /// Returns an iterator over the first substrings between the characters of the set, at most `count`, from the front.
-    /// They are those of [`UCStr::split_any`], but the last one of that number is all that is left of the contents, with the
-    /// separators in it. If `count` is 0 there are none.
+    /// They are those of [`UCStr::split_any`], but the last one of that number is all that is left of the contents, with
+    /// the separators in it. If `count` is 0 there are none.
     ///
     /// # Example
     ///
@@ -36,8 +36,8 @@ impl<'a, C: FaultUnit> UCStr<'a, C> {
         self.as_ustr().splitn_any(count, set)
     }
 
-    /// Returns an iterator over the substrings that a character of the set or the end of the contents, without the NUL, ends, from both ends.
-    /// They are those of [`UCStr::split_any`], without the last one if that is empty.
+    /// Returns an iterator over the substrings that a character of the set or the end of the contents ends, from both
+    /// ends. They are those of [`UCStr::split_any`], without the last one if that is empty.
     ///
     /// # Example
     ///
@@ -54,9 +54,9 @@ impl<'a, C: FaultUnit> UCStr<'a, C> {
         self.as_ustr().split_terminator_any(set)
     }
 
-    /// Returns an iterator over the substrings that end after a character of the set or at the end of the contents, without the NUL,, from
-    /// both ends. They are those of [`UCStr::split_any`], each with the character after it, and without the last one if
-    /// that is empty.
+    /// Returns an iterator over the substrings that end after a character of the set or at the end of the contents,
+    /// which have no NUL, from both ends. They are those of [`UCStr::split_any`], each with the character after it, and
+    /// without the last one if that is empty.
     ///
     /// # Example
     ///
@@ -93,6 +93,7 @@ impl<'a, C: FaultUnit> UCStr<'a, C> {
     /// ```
     pub fn rsplit_any<S: CharSet>(self, set: S) -> RSplit<UStr<'a, C>, AnyOf<S>>
         ensures left { any_rsplit_left C.form C.number S.has result ≡ rsplit_between C.form (S.has set) (map C.number (contents_seen self.entry)) }
+        ensures reversed { any_rsplit_left C.form C.number S.has result ≡ reverse (substrings_between C.form (S.has set) (map C.number (contents_seen self.entry))) }
         ensures most { length (any_rsplit_left C.form C.number S.has result) ≤ length (contents_seen self.entry) + 1 }
         ensures fits { length (any_rsplit_left C.form C.number S.has result) < 2 ^ 64 }
     {
@@ -100,8 +101,8 @@ impl<'a, C: FaultUnit> UCStr<'a, C> {
     }
 
     /// Returns an iterator over the last substrings between the characters of the set, at most `count`, from the back.
-    /// They are those of [`UCStr::rsplit_any`], but the last one of that number is all that is left of the contents, with the
-    /// separators in it. If `count` is 0 there are none.
+    /// They are those of [`UCStr::rsplit_any`], but the last one of that number is all that is left of the contents,
+    /// with the separators in it. If `count` is 0 there are none.
     ///
     /// # Example
     ///

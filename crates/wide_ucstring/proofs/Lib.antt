@@ -1,3 +1,4 @@
 pub mod Ends
 pub mod Repeated
 pub mod Cased
+pub mod Replaced

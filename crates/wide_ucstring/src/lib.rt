@@ -7,6 +7,7 @@ mod compare;
 mod cow;
 mod display;
 mod extend;
+mod overwriting;
 mod ucstring;
 mod view;
 

@@ -1,12 +1,12 @@
 -- Substrings with the separators after them.
-use Rattle.std.proofs.Common.{◌≡◌, ℕ, ◌+◌, ◌<◌, ◌≤◌, List, [], ◌∷◌, ◌++◌, refl, sym, ◌∙◌, ap, subst, arith, length, length-append, take, drop, append_assoc}
+use Rattle.std.proofs.Common.{◌≡◌, ℕ, ◌+◌, ◌<◌, ◌≤◌, List, [], ◌∷◌, ◌++◌, refl, sym, ◌∙◌, ap, arith, length, length-append, take, drop, append_assoc}
 use Rattle.std.specs.Prelude.{map}
 use Rattle.std.proofs.lemmas.List.{append-nil, length-map, length-take-le, take-map}
 use Rattle.std.proofs.Math.Seq.{take-append_seam}
 use Rattle.wide_search.specs.Cut.{substrings}
-use Rattle.wide_search.specs.Occurrences.{IsFirstAt, IsFirstSplit}
+use Rattle.wide_search.specs.Occurrences.{IsFirstAt}
 use Rattle.wide_search.specs.Substrings.{joined_with}
-use Rattle.wide_search.specs.Laws.Cuts.{substrings-first, some-substrings, split-at}
+use Rattle.wide_search.specs.Laws.Cuts.{substrings-first, split-at}
 use Rattle.wide_ustr.specs.Kept.{joined, followed_by, substrings_kept}
 use Rattle.wide_ustr.specs.SplitInclusive.{inclusive}
 use Rattle.wide_ustr.specs.SplitMore.{terminated}

@@ -9,3 +9,4 @@ pub mod BothEnds
 pub mod InclusiveEnds
 pub mod MatchedEnds
 pub mod KeptCuts
+pub mod SetsReversed

@@ -3,7 +3,7 @@ use Rattle.std.proofs.Common.{◌≡◌, ◌↔◌, ℕ, ◌+◌, ◌-◌, ◌<�
 use Rattle.std.specs.Prelude.{map, reverse}
 use Rattle.std.proofs.lemmas.List.{drop-map, length-map, length-take-le, map-append, length-reverse, nil_from_length, reverse-append, reverse-reverse, take-map}
 use Rattle.std.proofs.Math.Seq.{take-append_seam, drop-append_seam}
-use Rattle.wide_search.specs.Occurrences.{OccursAt, OccursNowhere, IsFirstAt, IsFirstSplit, IsLastAt, IsLastSplit}
+use Rattle.wide_search.specs.Occurrences.{OccursAt, OccursNowhere, IsFirstSplit, IsLastAt, IsLastSplit}
 use Rattle.wide_search.specs.Cut.{substrings, substrings-whole}
 use Rattle.wide_search.specs.Laws.Cuts.{substrings-none, substrings-first, substrings-at_most}
 use Rattle.wide_search.specs.Laws.Numbers.{last-numbers, nowhere-numbers}

@@ -42,6 +42,14 @@ substrings_kept needle whole = followed_by needle (substrings needle whole)
 abbrev pub substrings_ended : EncodingForm → (ℕ → Bool) → List ℕ → List (List ℕ)
 substrings_ended form has us = map (units_of form) (between_kept (is_member has) (items form us))
 
+-- The substrings of a list are the first one, and then those of the rest.
+abbrev pub IsFirstCut : (List ℕ → List (List ℕ)) → List ℕ → List ℕ → List ℕ → Type 0
+IsFirstCut cut whole first rest = cut whole ≡ first ∷ cut rest
+
+-- The substrings of a list are those of the rest, and then the last one.
+abbrev pub IsLastCut : (List ℕ → List (List ℕ)) → List ℕ → List ℕ → List ℕ → Type 0
+IsLastCut cut whole rest last = cut whole ≡ cut rest ++ last ∷ []
+
 -- The first substring, with the separator that ends it, and then those of the rest.
 pub record IsFirstKept (kept : List ℕ → List (List ℕ)) (whole first rest : List ℕ) : Type 0 where
   pub separator : List ℕ

@@ -26,6 +26,10 @@ module _ {A : Type 0} where
   terminated ((x ∷ xs) ∷ []) = (x ∷ xs) ∷ []
   terminated (first ∷ next ∷ more) = first ∷ terminated (next ∷ more)
 
+-- How units are split at a separator, without an empty last substring, given how they are split at it.
+abbrev pub terminated_at : {P : Type 0} → (P → List ℕ → List (List ℕ)) → P → List ℕ → List (List ℕ)
+terminated_at cut_at separator us = terminated (cut_at separator us)
+
 -- The numbers of the units of each substring that is not empty.
 abbrev pub filled_left : {V P : Type 0} → (V → List ℕ) → (P → List ℕ → List (List ℕ)) → SplitFilled V P → List (List ℕ)
 filled_left seen cut_at s = filled (substrings_left seen cut_at s.all)

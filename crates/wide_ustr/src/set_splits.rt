@@ -1,6 +1,6 @@
 //! Views of units that are split at the characters of a set: from the back, after each of them, and into at most a number
 //! of substrings.
-ghost use Rattle.std.specs.Prelude.{◌≡◌, ◌<◌, ◌≤◌, ◌+◌, ◌^◌, ◌∷◌, [], length};
+ghost use Rattle.std.specs.Prelude.{◌≡◌, ◌<◌, ◌≤◌, ◌+◌, ◌^◌, ◌∷◌, [], length, reverse};
 ghost use Rattle.wide_search.specs.Sets.{substrings_between};
 ghost use Rattle.wide_ustr.specs.Kept.{joined, substrings_ended};
 ghost use Rattle.wide_ustr.specs.KeptLaws.{between_back-some, ended_back-whole, ended_back-some};
@@ -147,6 +147,7 @@ impl<C: Unit> UStr<'_, C> {
     /// ```
     pub fn rsplit_any<S: CharSet>(self, set: S) -> RSplit<Self, AnyOf<S>>
         ensures left { any_rsplit_left C.form C.number S.has result ≡ rsplit_between C.form (S.has set) (numbers_seen C.number self.entry) }
+        ensures reversed { any_rsplit_left C.form C.number S.has result ≡ reverse (substrings_between C.form (S.has set) (numbers_seen C.number self.entry)) }
         ensures most { length (any_rsplit_left C.form C.number S.has result) ≤ length (units_seen self.entry) + 1 }
         ensures fits { length (any_rsplit_left C.form C.number S.has result) < 2 ^ 64 }
     {

@@ -6,7 +6,7 @@ ghost use Rattle.std.specs.Iterator.SizeHint.{IsWithinCount};
 ghost use Rattle.wide_forms.specs.EncodingForm.{code_units};
 ghost use Rattle.wide_search.specs.Cut.{substrings};
 ghost use Rattle.wide_search.specs.Laws.Cuts.{some-substrings};
-ghost use Rattle.wide_ustr.specs.Kept.{joined, limited, substrings_kept, IsFirstKept};
+ghost use Rattle.wide_ustr.specs.Kept.{joined, limited, substrings_kept, IsFirstCut, IsFirstKept};
 ghost use Rattle.wide_ustr.specs.KeptLaws.{kept-whole, kept-some};
 ghost use Rattle.wide_ustr.specs.SplitBack.{substrings_back, rsplitn, seen_back, rsplit_left, rsplitn_left, unit_rsplit_left, char_rsplit_left, unit_rsplitn_left, char_rsplitn_left};
 ghost use Rattle.wide_ustr.specs.View.{units_seen, numbers_seen};
@@ -51,7 +51,7 @@ pub trait BackView<P>: SplitView<P> {
     /// `None` if the separator does not occur, or has no units.
     fn cut_last(self, needle: P) -> Option<(Self, Self)>
         ensures none { IfNone result (cut_back needle (reverse (Self.SplitView.numbers_seen self)) ≡ reverse (Self.SplitView.numbers_seen self) ∷ []) }
-        ensures some { IfSome result (λ r. cut_back needle (reverse (Self.SplitView.numbers_seen self)) ≡ reverse (Self.SplitView.numbers_seen r.1) ∷ cut_back needle (reverse (Self.SplitView.numbers_seen r.0))) }
+        ensures some { IfSome result (λ r. IsFirstCut (cut_back needle) (reverse (Self.SplitView.numbers_seen self)) (reverse (Self.SplitView.numbers_seen r.1)) (reverse (Self.SplitView.numbers_seen r.0))) }
         ensures kept_none { IfNone result (kept_back needle (reverse (Self.SplitView.numbers_seen self)) ≡ reverse (Self.SplitView.numbers_seen self) ∷ []) }
         ensures kept_some { IfSome result (λ r. IsFirstKept (kept_back needle) (reverse (Self.SplitView.numbers_seen self)) (reverse (Self.SplitView.numbers_seen r.1)) (reverse (Self.SplitView.numbers_seen r.0))) };
 }

@@ -1,5 +1,6 @@
 //! Views that are split into the same substrings from either end.
-ghost use Rattle.std.specs.Prelude.{◌≡◌, ◌∷◌, ◌++◌, [], IfNone, IfSome};
+ghost use Rattle.std.specs.Prelude.{◌≡◌, ◌∷◌, [], IfNone, IfSome};
+ghost use Rattle.wide_ustr.specs.Kept.{IsLastCut};
 
 use crate::sets::AnyOf;
 use crate::split::{OneUnit, SplitView};
@@ -26,7 +27,7 @@ pub trait DoubleEndedView<P>: SplitView<P> {
     /// `None` if the separator does not occur.
     fn cut_off_last(self, separator: P) -> Option<(Self, Self)>
         ensures none { IfNone result (Self.SplitView.cut_at separator (Self.SplitView.numbers_seen self) ≡ Self.SplitView.numbers_seen self ∷ []) }
-        ensures some { IfSome result (λ r. Self.SplitView.cut_at separator (Self.SplitView.numbers_seen self) ≡ Self.SplitView.cut_at separator (Self.SplitView.numbers_seen r.0) ++ Self.SplitView.numbers_seen r.1 ∷ []) };
+        ensures some { IfSome result (λ r. IsLastCut (Self.SplitView.cut_at separator) (Self.SplitView.numbers_seen self) (Self.SplitView.numbers_seen r.0) (Self.SplitView.numbers_seen r.1)) };
 }
 
 impl<C: Unit> DoubleEndedView<OneUnit<C>> for UStr<'_, C> {

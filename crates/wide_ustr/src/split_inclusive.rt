@@ -4,9 +4,9 @@ ghost use Rattle.std.specs.Iterator.{YieldsFirstBy, YieldsLastBy, at_most, UpTo}
 ghost use Rattle.std.specs.Iterator.SizeHint.{IsWithinCount};
 ghost use Rattle.wide_forms.specs.EncodingForm.{code_units};
 ghost use Rattle.wide_search.specs.Cut.{substrings};
-ghost use Rattle.wide_ustr.specs.Kept.{joined};
+ghost use Rattle.wide_ustr.specs.Kept.{joined, IsFirstCut, IsLastCut};
 ghost use Rattle.wide_ustr.specs.SplitInclusive.{inclusive, inclusive_left, unit_inclusive_left, char_inclusive_left};
-ghost use Rattle.wide_ustr.specs.SplitMore.{terminated};
+ghost use Rattle.wide_ustr.specs.SplitMore.{terminated, terminated_at};
 ghost use Rattle.wide_ustr.specs.View.{units_seen, numbers_seen};
 
 use crate::split::SplitView;
@@ -33,7 +33,7 @@ pub trait InclusiveView<P>: SplitView<P> {
     /// `None` if the separator does not occur, or has no units.
     fn cut_after(self, needle: P) -> Option<(Self, Self)>
         ensures none { IfNone result (Self.SplitView.kept_at needle (Self.SplitView.numbers_seen self) ≡ Self.SplitView.numbers_seen self ∷ []) }
-        ensures some { IfSome result (λ r. Self.SplitView.kept_at needle (Self.SplitView.numbers_seen self) ≡ Self.SplitView.numbers_seen r.0 ∷ Self.SplitView.kept_at needle (Self.SplitView.numbers_seen r.1)) };
+        ensures some { IfSome result (λ r. IsFirstCut (Self.SplitView.kept_at needle) (Self.SplitView.numbers_seen self) (Self.SplitView.numbers_seen r.0) (Self.SplitView.numbers_seen r.1)) };
 }
 
 /// A view that is split after a separator into the same substrings from either end: after a character, or after any
@@ -54,8 +54,8 @@ pub trait InclusiveBackView<P>: InclusiveView<P> {
     /// Cuts off the last substring, which ends with the separator if the view does. Returns what is before it, which
     /// ends with a separator, and the substring. Returns `None` if no separator is before it.
     fn cut_off_inclusive(self, needle: P) -> Option<(Self, Self)>
-        ensures none { IfNone result (terminated (Self.InclusiveView.kept_at needle (Self.InclusiveView.numbers_seen self)) ≡ terminated (Self.InclusiveView.numbers_seen self ∷ [])) }
-        ensures some { IfSome result (λ r. terminated (Self.InclusiveView.kept_at needle (Self.InclusiveView.numbers_seen self)) ≡ terminated (Self.InclusiveView.kept_at needle (Self.InclusiveView.numbers_seen r.0)) ++ Self.InclusiveView.numbers_seen r.1 ∷ []) };
+        ensures none { IfNone result (terminated_at Self.InclusiveView.kept_at needle (Self.InclusiveView.numbers_seen self) ≡ terminated (Self.InclusiveView.numbers_seen self ∷ [])) }
+        ensures some { IfSome result (λ r. IsLastCut (terminated_at Self.InclusiveView.kept_at needle) (Self.InclusiveView.numbers_seen self) (Self.InclusiveView.numbers_seen r.0) (Self.InclusiveView.numbers_seen r.1)) };
 }
 
 /// An iterator over the substrings of a view that end after an occurrence of a separator or at the end, from the front.

@@ -1,6 +1,6 @@
 //! Well-formed text that is split at the characters of a set: from the back, after each of them, and into at most a
 //! number of substrings.
-ghost use Rattle.std.specs.Prelude.{◌≡◌, ◌<◌, ◌≤◌, ◌+◌, ◌^◌, ◌∷◌, [], length};
+ghost use Rattle.std.specs.Prelude.{◌≡◌, ◌<◌, ◌≤◌, ◌+◌, ◌^◌, ◌∷◌, [], length, reverse};
 ghost use Rattle.wide_search.specs.Sets.{substrings_between};
 ghost use Rattle.wide_ustr.specs.Kept.{joined, substrings_ended};
 ghost use Rattle.wide_ustr.specs.KeptLaws.{between_back-some, ended_back-whole, ended_back-some};
@@ -65,9 +65,9 @@ impl<C: Unit, S: CharSet> InclusiveBackView<AnyOf<S>> for UtfStr<'_, C> {
 }
 
 impl<C: Unit> UtfStr<'_, C> {
-    /// Returns an iterator over the first substrings between the characters of the set, at most `count`, each well formed,
-    /// from the front. They are those of [`UtfStr::split_any`], but the last one of that number is all that is left of the text, with the
-    /// separators in it. If `count` is 0 there are none.
+    /// Returns an iterator over the first substrings between the characters of the set, at most `count`, each well
+    /// formed, from the front. They are those of [`UtfStr::split_any`], but the last one of that number is all that is
+    /// left of the text, with the separators in it. If `count` is 0 there are none.
     ///
     /// # Example
     ///
@@ -149,6 +149,7 @@ impl<C: Unit> UtfStr<'_, C> {
     /// ```
     pub fn rsplit_any<S: CharSet>(self, set: S) -> RSplit<Self, AnyOf<S>>
         ensures left { any_rsplit_left C.form C.number S.has result ≡ rsplit_between C.form (S.has set) (numbers_seen C.number self.entry) }
+        ensures reversed { any_rsplit_left C.form C.number S.has result ≡ reverse (substrings_between C.form (S.has set) (numbers_seen C.number self.entry)) }
         ensures most { length (any_rsplit_left C.form C.number S.has result) ≤ length (units_seen self.entry) + 1 }
         ensures fits { length (any_rsplit_left C.form C.number S.has result) < 2 ^ 64 }
     {
@@ -158,8 +159,8 @@ impl<C: Unit> UtfStr<'_, C> {
     }
 
     /// Returns an iterator over the last substrings between the characters of the set, at most `count`, from the back.
-    /// They are those of [`UtfStr::rsplit_any`], but the last one of that number is all that is left of the text, with the
-    /// separators in it. If `count` is 0 there are none.
+    /// They are those of [`UtfStr::rsplit_any`], but the last one of that number is all that is left of the text, with
+    /// the separators in it. If `count` is 0 there are none.
     ///
     /// # Example
     ///
