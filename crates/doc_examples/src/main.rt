@@ -32,7 +32,7 @@ fn main(rt: HostRuntime) -> ExitCode {
     all &= ustring::hold(&rt);
     all &= utfstr::hold(&rt);
     all &= utfstring::hold(&rt);
-    if all && println!(rt; "418 examples hold").is_ok() {
+    if all && println!(rt; "422 examples hold").is_ok() {
         return ExitCode::SUCCESS;
     }
     ExitCode::FAILURE

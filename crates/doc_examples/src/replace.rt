@@ -1,8 +1,29 @@
 //! The examples of `widestring::replace`.
 use crate::holds;
 use std::test::Fail;
-use widestring::replace::{UStrReplace, UtfStrReplace};
-use widestring::{U16Str, Utf16Str, Utf16String};
+use widestring::replace::{UCStrReplace, UStrReplace, UtfStrReplace};
+use widestring::{U16CStr, U16Str, Utf16Str, Utf16String};
+
+fn example_of_ucstrreplace(rt: &HostRuntime) -> Result<bool, Fail> {
+    let path = U16CStr::from_slice(&[0x61, 0x2f, 0x62, 0])?;
+    let slash = U16CStr::from_slice(&[0x2f, 0])?;
+    let path = path.replace(rt.alloc(), slash, U16CStr::from_slice(&[0x5c, 0x5c, 0])?)?;
+    Ok(path.as_ucstr().as_slice_with_nul() == [0x61, 0x5c, 0x5c, 0x62, 0].as_slice())
+}
+
+fn example_of_ucstrreplace_replace(rt: &HostRuntime) -> Result<bool, Fail> {
+    let row = U16CStr::from_slice(&[0x61, 0x3b, 0xd800, 0x3b, 0])?;
+    let semicolon = U16CStr::from_slice(&[0x3b, 0])?;
+    let row = row.replace(rt.alloc(), semicolon, U16CStr::from_slice(&[0])?)?;
+    Ok(row.as_ucstr().as_slice() == [0x61, 0xd800].as_slice())
+}
+
+fn example_of_ucstrreplace_replacen(rt: &HostRuntime) -> Result<bool, Fail> {
+    let slash = U16CStr::from_slice(&[0x2f, 0])?;
+    let path = U16CStr::from_slice(&[0x61, 0x2f, 0x62, 0x2f, 0])?;
+    let path = path.replacen(rt.alloc(), slash, U16CStr::from_slice(&[0x5c, 0])?, 1)?;
+    Ok(path.as_ucstr().as_slice() == [0x61, 0x5c, 0x62, 0x2f].as_slice())
+}
 
 fn example_of_utfstrreplace(rt: &HostRuntime) -> Result<bool, Fail> {
     let text = Utf16Str::from_slice(&[0x61, 0x2c, 0x62])?;
@@ -51,7 +72,18 @@ fn example_of_ustrreplace_replacen(rt: &HostRuntime) -> Result<bool, Fail> {
 
 // Returns whether the examples of this module hold.
 pub(crate) fn hold(rt: &HostRuntime) -> bool {
-    let mut all = holds(rt, "UtfStrReplace", example_of_utfstrreplace(rt));
+    let mut all = holds(rt, "UCStrReplace", example_of_ucstrreplace(rt));
+    all &= holds(
+        rt,
+        "UCStrReplace::replace",
+        example_of_ucstrreplace_replace(rt),
+    );
+    all &= holds(
+        rt,
+        "UCStrReplace::replacen",
+        example_of_ucstrreplace_replacen(rt),
+    );
+    all &= holds(rt, "UtfStrReplace", example_of_utfstrreplace(rt));
     all &= holds(
         rt,
         "UtfStrReplace::replace",

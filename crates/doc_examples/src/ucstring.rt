@@ -91,6 +91,13 @@ fn example_of_ucstring_make_ascii_uppercase(rt: &HostRuntime) -> Result<bool, Fa
     Ok(text.as_ucstr().chars_lossy().eq("GRößE".chars()))
 }
 
+fn example_of_ucstring_replace_with(rt: &HostRuntime) -> Result<bool, Fail> {
+    let mut path = U16CString::from_str(rt.alloc(), "C:/temp/é")?;
+    let slash = U16CStr::from_slice(&[0x2f, 0])?;
+    path.replace_with(slash, U16CStr::from_slice(&[0x5c, 0])?);
+    Ok(path.as_ucstr().chars_lossy().eq("C:\\temp\\é".chars()))
+}
+
 fn example_of_cowucstr(rt: &HostRuntime) -> Result<bool, Fail> {
     let view = U16CStr::from_slice(&[0x48, 0x69, 0])?;
     let name: CowU16CStr<'_> = CowU16CStr::Borrowed(view);
@@ -200,6 +207,11 @@ fn part_2_holds(rt: &HostRuntime) -> bool {
         rt,
         "UCString::make_ascii_uppercase",
         example_of_ucstring_make_ascii_uppercase(rt),
+    );
+    all &= holds(
+        rt,
+        "UCString::replace_with",
+        example_of_ucstring_replace_with(rt),
     );
     all &= holds(rt, "CowUCStr", example_of_cowucstr(rt));
     all &= holds(rt, "BoxedUCStr", example_of_boxeducstr(rt));

@@ -46,7 +46,7 @@ pub mod iter {
 }
 
 pub mod replace {
-    pub use widestring::replace::{UStrReplace, UtfStrReplace};
+    pub use widestring::replace::{UCStrReplace, UStrReplace, UtfStrReplace};
 }
 
 pub mod search {
