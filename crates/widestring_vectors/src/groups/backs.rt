@@ -4,8 +4,8 @@
 //! `t ic 1F600:-`.
 //!
 //! The way is from the back (`r`), or from the front with the separators (`i`), which takes no limit. The separator is a
-//! view of the same kind (`v`), or a character (`c`). The answer is how many substrings there are, and as further fields
-//! the units of each.
+//! view of the same kind (`v`), a character (`c`), or any character of a list (`s`). The answer is how many substrings
+//! there are, and as further fields the units of each.
 use crate::groups::answers::substrings;
 use crate::groups::kinds::{self, Kind};
 use crate::groups::splits::most_of;
@@ -21,19 +21,34 @@ use widestring_replay::show::Answer;
 enum By {
     View,
     Char,
+    Set,
     KeptView,
     KeptChar,
+    KeptSet,
 }
 
-static SEPARATORS: [(&str, By); 4] = [
+static SEPARATORS: [(&str, By); 6] = [
     ("rv", By::View),
     ("rc", By::Char),
+    ("rs", By::Set),
     ("iv", By::KeptView),
     ("ic", By::KeptChar),
+    ("is", By::KeptSet),
 ];
 
 // A parsed question: the view, the way with the separator's kind, the separator, and the greatest number of substrings.
 type Parts<'q> = (Kind, By, &'q str, Option<usize>);
+
+// Adds the substrings of a view between the characters of a list, from the back, or with these characters after them.
+macro_rules! between {
+    ($answer:expr, $view:expr, $by:expr, $chars:expr, $most:expr) => {
+        match ($by, $most) {
+            (By::KeptSet, _) => substrings!($answer, $view.split_inclusive_any($chars)),
+            (_, None) => substrings!($answer, $view.rsplit_any($chars)),
+            (_, Some(count)) => substrings!($answer, $view.rsplitn_any(count, $chars)),
+        }
+    };
+}
 
 fn units_at_units<C: Width>(
     answer: &mut Answer,
@@ -194,6 +209,26 @@ fn after_char<C: Width>(answer: &mut Answer, kind: Kind, units: &[C], c: char) {
     }
 }
 
+// Splits units from the back at the characters of a list, or after them.
+fn with_set<C: Width>(
+    answer: &mut Answer,
+    (kind, by, _, most): Parts<'_>,
+    units: &[C],
+    chars: &[char],
+) {
+    match kind {
+        Kind::Units => between!(answer, UStr::from_slice(units), by, chars, most),
+        Kind::Text => match as_text(units) {
+            Ok(text) => between!(answer, text, by, chars, most),
+            Err(error) => answer.fail(error),
+        },
+        Kind::Contents => match as_contents(units) {
+            Ok(view) => between!(answer, view, by, chars, most),
+            Err(error) => answer.fail(error),
+        },
+    }
+}
+
 fn with_view<C: Width>(
     answer: &mut Answer,
     (kind, by, _, most): Parts<'_>,
@@ -201,15 +236,15 @@ fn with_view<C: Width>(
     needle: &[C],
 ) {
     match by {
-        By::View | By::Char => at_view(answer, kind, units, needle, most),
-        By::KeptView | By::KeptChar => after_view(answer, kind, units, needle),
+        By::KeptView => after_view(answer, kind, units, needle),
+        _ => at_view(answer, kind, units, needle, most),
     }
 }
 
 fn with_char<C: Width>(answer: &mut Answer, (kind, by, _, most): Parts<'_>, units: &[C], c: char) {
     match by {
-        By::View | By::Char => at_char(answer, kind, units, c, most),
-        By::KeptView | By::KeptChar => after_char(answer, kind, units, c),
+        By::KeptChar => after_char(answer, kind, units, c),
+        _ => at_char(answer, kind, units, c, most),
     }
 }
 
@@ -221,6 +256,10 @@ fn with_parts<C: Width>(memory: Memory<'_>, answer: &mut Answer, parts: Parts<'_
         },
         By::Char | By::KeptChar => match parse::value::<char>(parts.2) {
             Ok(c) => with_char(answer, parts, units, c),
+            Err(error) => answer.fail(error),
+        },
+        By::Set | By::KeptSet => match parse::list::<char>(memory.alloc, parts.2) {
+            Ok(chars) => with_set(answer, parts, units, &chars),
             Err(error) => answer.fail(error),
         },
     }

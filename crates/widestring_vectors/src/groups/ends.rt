@@ -3,9 +3,9 @@
 //! separates, a colon, and the calls, an `F` from the front and a `B` from the back: `u o 2F:FBF`, `t w :BB`.
 //!
 //! The substrings are those at a unit (`o`, of units alone), at a character (`c`), at any character of a list (`s`),
-//! ended by a character (`e`), or with a character after them (`i`), or they are the words (`w`); `m` is for the matches
-//! of a character. The answer has the units that each call returns, after the offset of a match, or a `-`, each of them
-//! a field.
+//! ended by a character (`e`) or by any of a list (`es`), or with a character after them (`i`) or any of a list (`is`),
+//! or they are the words (`w`); `m` is for the matches of a character. The answer has the units that each call returns,
+//! after the offset of a match, or a `-`, each of them a field.
 use crate::groups::kinds::{self, Kind};
 use crate::groups::width::{Width, as_contents, as_text};
 use widestring::iter::End;
@@ -22,17 +22,21 @@ enum By {
     Char,
     Set,
     Ended,
+    EndedByAny,
     Kept,
+    KeptAny,
     Words,
     Matches,
 }
 
-static ITERATORS: [(&str, By); 7] = [
+static ITERATORS: [(&str, By); 9] = [
     ("o", By::Unit),
     ("c", By::Char),
     ("s", By::Set),
     ("e", By::Ended),
+    ("es", By::EndedByAny),
     ("i", By::Kept),
+    ("is", By::KeptAny),
     ("w", By::Words),
     ("m", By::Matches),
 ];
@@ -94,6 +98,8 @@ macro_rules! between {
             (By::Kept, [c]) => called($answer, $view.split_inclusive_char(*c), $calls),
             (By::Matches, [c]) => called($answer, $view.match_indices_char(*c), $calls),
             (By::Set, chars) => called($answer, $view.split_any(chars), $calls),
+            (By::EndedByAny, chars) => called($answer, $view.split_terminator_any(chars), $calls),
+            (By::KeptAny, chars) => called($answer, $view.split_inclusive_any(chars), $calls),
             (By::Words, []) => called($answer, $view.split_whitespace(), $calls),
             _ => $answer.fail(NoAnswer::Unparsed),
         }

@@ -2,8 +2,8 @@
 //! a space, a letter for the separator, a space, the separator, a colon, and the greatest number of substrings, or a
 //! `-` if there is no limit: `u o 3B:2`, `t c 1F600:-`.
 //!
-//! The separator is a view of the same kind (`v`), one unit (`o`), or a character (`c`). The answer is how many
-//! substrings there are, and as further fields the units of each.
+//! The separator is a view of the same kind (`v`), one unit (`o`), a character (`c`), or any character of a list (`s`).
+//! The answer is how many substrings there are, and as further fields the units of each.
 use crate::groups::answers::substrings;
 use crate::groups::kinds::{self, Kind};
 use crate::groups::width::{Width, as_contents, as_text};
@@ -19,12 +19,28 @@ enum By {
     View,
     Unit,
     Char,
+    Set,
 }
 
-static SEPARATORS: [(&str, By); 3] = [("v", By::View), ("o", By::Unit), ("c", By::Char)];
+static SEPARATORS: [(&str, By); 4] = [
+    ("v", By::View),
+    ("o", By::Unit),
+    ("c", By::Char),
+    ("s", By::Set),
+];
 
 // A parsed question: the view, the separator's kind, the separator, and the greatest number of substrings.
 type Parts<'q> = (Kind, By, &'q str, Option<usize>);
+
+// Adds the substrings of a view between the characters of a list.
+macro_rules! between {
+    ($answer:expr, $view:expr, $chars:expr, $most:expr) => {
+        match $most {
+            None => substrings!($answer, $view.split_any($chars)),
+            Some(count) => substrings!($answer, $view.splitn_any(count, $chars)),
+        }
+    };
+}
 
 fn units_at_units<C: Width>(
     answer: &mut Answer,
@@ -156,6 +172,27 @@ fn at_char<C: Width>(answer: &mut Answer, kind: Kind, units: &[C], c: char, most
     }
 }
 
+// Splits units at the characters of a list.
+fn at_set<C: Width>(
+    answer: &mut Answer,
+    kind: Kind,
+    units: &[C],
+    chars: &[char],
+    most: Option<usize>,
+) {
+    match kind {
+        Kind::Units => between!(answer, UStr::from_slice(units), chars, most),
+        Kind::Text => match as_text(units) {
+            Ok(text) => between!(answer, text, chars, most),
+            Err(error) => answer.fail(error),
+        },
+        Kind::Contents => match as_contents(units) {
+            Ok(view) => between!(answer, view, chars, most),
+            Err(error) => answer.fail(error),
+        },
+    }
+}
+
 fn with_parts<C: Width>(
     memory: Memory<'_>,
     answer: &mut Answer,
@@ -173,6 +210,10 @@ fn with_parts<C: Width>(
         },
         By::Char => match parse::value::<char>(separator) {
             Ok(c) => at_char(answer, kind, units, c, most),
+            Err(error) => answer.fail(error),
+        },
+        By::Set => match parse::list::<char>(memory.alloc, separator) {
+            Ok(chars) => at_set(answer, kind, units, &chars, most),
             Err(error) => answer.fail(error),
         },
     }
