@@ -18,6 +18,7 @@ pub mod examples_ignoring_case;
 pub mod examples_matches;
 pub mod examples_printing;
 pub mod examples_replaced;
+pub mod examples_set_splits;
 pub mod examples_sets;
 pub mod examples_split;
 pub mod examples_split_back;
