@@ -1,14 +1,17 @@
-//! Units and text with occurrences of a needle replaced, in a new string. A question is the letter of a view and a
-//! space, a needle, a colon, the units that replace it, a colon, and how many occurrences are replaced, a `-` for all,
-//! or an `i` for all in a copy of the units, in place, by as many units as the needle has.
+//! Units, text and C strings with occurrences of a needle replaced, in a new string. A question is the letter of a view
+//! and a space, a needle, a colon, the units that replace it, a colon, and how many occurrences are replaced, a `-` for
+//! all, or an `i` for all in a copy of the units, in place, by as many units as the needle has.
 //!
-//! The view is units (`u`), or the text of the units, in which the needle is a text (`t`) or a character (`c`). The
-//! answer has the units of the new string. It makes one request for memory, and none if it has no units; else the
-//! answer has a `?`.
+//! The view is units (`u`), or the text of the units, in which the needle is a text (`t`) or a character (`c`), or a C
+//! string (`z`), in which the needle and what replaces it are C strings, with their NULs. The answer has the units of
+//! the new string, without a NUL. It makes one request for memory, and none if it has no units and needs no NUL; else
+//! the answer has a `?`.
 use crate::groups::made;
-use crate::groups::width::{Width, as_text};
+use crate::groups::width::{Width, as_contents, as_text};
 use widestring::error::OutOfMemory;
-use widestring::replace::{UStrReplace, UtfStrReplace};
+use widestring::replace::{UCStrReplace, UStrReplace, UtfStrReplace};
+use widestring::ucstr::UCStr;
+use widestring::ucstring::{UCStrInUcstring, UCString};
 use widestring::ustr::UStr;
 use widestring::ustring::{UStrInUstring, UString};
 use widestring::utfstr::UtfStr;
@@ -23,9 +26,15 @@ enum Kind {
     Units,
     Text,
     Char,
+    Contents,
 }
 
-static KINDS: [(&str, Kind); 3] = [("u", Kind::Units), ("t", Kind::Text), ("c", Kind::Char)];
+static KINDS: [(&str, Kind); 4] = [
+    ("u", Kind::Units),
+    ("t", Kind::Text),
+    ("c", Kind::Char),
+    ("z", Kind::Contents),
+];
 
 // How occurrences are replaced: all, at most a number of them, or all in place.
 #[derive(Clone, Copy)]
@@ -66,6 +75,20 @@ fn copied_text<'h, C: Width>(
     Ok(string)
 }
 
+// Returns a copy of the C string in which occurrences are replaced in place, if the lengths are equal.
+fn copied_contents<'h, C: Width>(
+    heap: &'h Heap,
+    view: UCStr<'_, C>,
+    needle: UCStr<'_, C>,
+    with: UCStr<'_, C>,
+) -> Result<UCString<C, &'h Heap>, OutOfMemory> {
+    let mut string = view.to_ucstring(heap)?;
+    if with.len() == needle.len() {
+        string.replace_with(needle, with);
+    }
+    Ok(string)
+}
+
 fn in_units<C: Width>(
     memory: Memory<'_>,
     answer: &mut Answer,
@@ -100,6 +123,23 @@ fn in_text<C: Width>(
     made::text(memory, answer, left, made);
 }
 
+fn in_contents<C: Width>(
+    memory: Memory<'_>,
+    answer: &mut Answer,
+    view: UCStr<'_, C>,
+    needle: UCStr<'_, C>,
+    with: UCStr<'_, C>,
+    how: How,
+) {
+    let (heap, left) = (memory.heap, memory.heap.left());
+    let made = match how {
+        How::All => view.replace(heap, needle, with),
+        How::First(count) => view.replacen(heap, needle, with, count),
+        How::InPlace => copied_contents(heap, view, needle, with),
+    };
+    made::contents(memory, answer, left, made);
+}
+
 fn char_in_text<C: Width>(
     memory: Memory<'_>,
     answer: &mut Answer,
@@ -116,7 +156,7 @@ fn char_in_text<C: Width>(
     made::text(memory, answer, left, made);
 }
 
-// Replaces a text, or any units.
+// Replaces a text, any units, or the contents of a C string.
 fn replaced<C: Width>(
     memory: Memory<'_>,
     answer: &mut Answer,
@@ -131,6 +171,12 @@ fn replaced<C: Width>(
             let (view, needle) = (UStr::from_slice(units), UStr::from_slice(needle));
             in_units(memory, answer, view, needle, UStr::from_slice(with), how);
         }
+        Kind::Contents => match (as_contents(units), as_contents(needle), as_contents(with)) {
+            (Ok(view), Ok(needle), Ok(with)) => {
+                in_contents(memory, answer, view, needle, with, how);
+            }
+            _ => answer.fail(NoAnswer::Unparsed),
+        },
         _ => match (as_text(units), as_text(needle), as_text(with)) {
             (Ok(text), Ok(needle), Ok(with)) => {
                 in_text(memory, answer, text, needle, with, how);
