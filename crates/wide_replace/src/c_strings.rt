@@ -1,5 +1,5 @@
 //! Occurrences that are replaced in the contents of C strings.
-ghost use Rattle.std.specs.Prelude.{◌≡◌, map, List, IfOk};
+ghost use Rattle.std.specs.Prelude.{◌≡◌, map, ℕ, List, IfOk};
 ghost use Rattle.wide_search.specs.Cut.{substrings};
 ghost use Rattle.wide_search.specs.Substrings.{joined_with};
 ghost use Rattle.wide_ucstr.specs.CString.{IsCString, contents};
@@ -27,9 +27,12 @@ use wide_utferror::FaultUnit;
 /// let path = path.replace(rt.alloc(), slash, U16CStr::from_slice(&[0x5c, 0x5c, 0])?)?;
 /// assert!(rt; path.as_ucstr().as_slice_with_nul() == [0x61, 0x5c, 0x5c, 0x62, 0].as_slice());
 /// ```
-pub trait UCStrReplace<C: FaultUnit>: Copy {
-    // The units of the contents.
-    ghost text: { Self → List C };
+pub trait UCStrReplace<C: FaultUnit, P>: Copy {
+    // The numbers of the units of the contents.
+    ghost numbers_seen: { Self → List ℕ };
+
+    // The numbers of the needle's units, without its NUL.
+    ghost needle_numbers: { P → List ℕ };
 
     /// Replaces each occurrence of the needle in the contents, in a new C string. Each occurrence is the first one after
     /// the one before, so occurrences do not overlap. If the needle does not occur, or is empty, the C string is a copy.
@@ -54,10 +57,10 @@ pub trait UCStrReplace<C: FaultUnit>: Copy {
     fn replace<A: Allocator>(
         self,
         alloc: A,
-        needle: UCStr<'_, C>,
-        with: UCStr<'_, C>,
+        needle: P,
+        with: Self,
     ) -> Result<UCString<C, A>, OutOfMemory>
-        ensures contents { IfOk result (λ s. map C.number (contents s.units) ≡ joined_with (map C.number (contents_seen with)) (substrings (map C.number (contents_seen needle)) (map C.number (text self)))) };
+        ensures contents { IfOk result (λ s. map C.number (contents s.units) ≡ joined_with (numbers_seen with) (substrings (needle_numbers needle) (numbers_seen self))) };
 
     /// Replaces the first `count` occurrences of the needle in the contents, in a new C string. Each occurrence is the
     /// first one after the one before, so occurrences do not overlap. If `count` is 0, or the needle does not occur or
@@ -81,11 +84,11 @@ pub trait UCStrReplace<C: FaultUnit>: Copy {
     fn replacen<A: Allocator>(
         self,
         alloc: A,
-        needle: UCStr<'_, C>,
-        with: UCStr<'_, C>,
+        needle: P,
+        with: Self,
         count: usize,
     ) -> Result<UCString<C, A>, OutOfMemory>
-        ensures contents { IfOk result (λ s. map C.number (contents s.units) ≡ joined_first count (map C.number (contents_seen with)) (map C.number (contents_seen needle)) (substrings (map C.number (contents_seen needle)) (map C.number (text self)))) };
+        ensures contents { IfOk result (λ s. map C.number (contents s.units) ≡ joined_first count (numbers_seen with) (needle_numbers needle) (substrings (needle_numbers needle) (numbers_seen self))) };
 }
 
 // Makes a C string of units that are one, without allocating.
@@ -101,14 +104,16 @@ fn c_string_of<C: FaultUnit, A: Allocator>(
     }
 }
 
-impl<C: FaultUnit> UCStrReplace<C> for UCStr<'_, C> {
-    ghost text = { contents_seen };
+impl<'p, C: FaultUnit> UCStrReplace<C, UCStr<'p, C>> for UCStr<'_, C> {
+    ghost numbers_seen = { λ view. map C.number (contents_seen view) };
+
+    ghost needle_numbers = { λ needle. map C.number (contents_seen needle) };
 
     fn replace<A: Allocator>(
         self,
         alloc: A,
-        needle: UCStr<'_, C>,
-        with: UCStr<'_, C>,
+        needle: UCStr<'p, C>,
+        with: Self,
     ) -> Result<UCString<C, A>, OutOfMemory> {
         // A needle without a NUL leaves the NUL at the end.
         let units = self.as_ustr_with_nul();
@@ -118,8 +123,8 @@ impl<C: FaultUnit> UCStrReplace<C> for UCStr<'_, C> {
     fn replacen<A: Allocator>(
         self,
         alloc: A,
-        needle: UCStr<'_, C>,
-        with: UCStr<'_, C>,
+        needle: UCStr<'p, C>,
+        with: Self,
         count: usize,
     ) -> Result<UCString<C, A>, OutOfMemory> {
         let units = self.as_ustr_with_nul();

@@ -1,0 +1,34 @@
+use Rattle.std.proofs.Common.{map, ap, ◌∙◌}
+use Rattle.wide_search.specs.Cut.{substrings}
+use Rattle.wide_ustr.specs.View.{units_seen}
+use Rattle.wide_ucstr.specs.CString.{contents}
+use Rattle.wide_ucstr.specs.View.{contents_seen}
+use Rattle.wide_ucstring.proofs.Replaced.{made-c_string, made-contents}
+use Rattle.wide_replace.specs.Replaced.{joined_first}
+use Rattle.wide_replace.proofs.Ended.{first-alike}
+use Rattle.wide_replace.proofs.Joined.{if_ok}
+use Rattle.wide_replace.proofs.c_strings.UCStrUCStrReplace.replacen.Goals as goal
+
+pub c_string_of-requires : goal.c_string_of-requires
+c_string_of-requires g c =
+    let number = g.C.Unit.number in
+    let needle = map number (units_seen c.as_ustr.result) in
+    let with = map number (units_seen c.as_ustr-2.result) in
+    let old = units_seen c.as_ustr_with_nul-units.result in
+    made-c_string number (joined_first c.args.count with needle) needle old c.in_ok-replacen.field-0.units c.as_ustr.ensures.no_nul c.as_ustr_with_nul-units.ensures.c_string
+    (first-alike number c.args.count with needle old c.as_ustr-2.ensures.no_nul c.as_ustr.ensures.no_nul c.as_ustr_with_nul-units.ensures.c_string) c.in_ok-replacen.ensures.units
+
+pub returns : goal.returns
+returns g c =
+    let number = g.C.Unit.number in
+    let needle = map number (units_seen c.as_ustr.result) in
+    let with = map number (units_seen c.as_ustr-2.result) in
+    let old = units_seen c.as_ustr_with_nul-units.result in
+    record {
+      contents = if_ok c.c_string_of.result (λ s same.
+          made-contents number (joined_first c.args.count with needle) needle old s.units c.as_ustr.ensures.no_nul c.as_ustr_with_nul-units.ensures.c_string
+          (first-alike number c.args.count with needle old c.as_ustr-2.ensures.no_nul c.as_ustr.ensures.no_nul c.as_ustr_with_nul-units.ensures.c_string) (same ∙ c.in_ok-replacen.ensures.units)
+          ∙ ap (λ us. joined_first c.args.count (map number us) needle (substrings needle (map number (contents old)))) c.as_ustr-2.ensures.units
+          ∙ ap (λ us. joined_first c.args.count (map number (contents_seen c.args.with)) (map number us) (substrings (map number us) (map number (contents old)))) c.as_ustr.ensures.units
+          ∙ ap (λ us. joined_first c.args.count (map number (contents_seen c.args.with)) (map number (contents_seen c.args.needle)) (substrings (map number (contents_seen c.args.needle)) (map number (contents us)))) c.as_ustr_with_nul-units.ensures.units) c.c_string_of.ensures;
+    }
