@@ -131,6 +131,16 @@ fn long_needles() {
     race_long("another unit in the middle", &alike, &half, Some(ordinary));
     let nearly = [&alike[..NEEDLE - 1], &[0x62]].concat().repeat(LENGTH / NEEDLE);
     race_long("a unit that is late once in each 10,000", &nearly, &alike[..NEEDLE], Some(ordinary));
+    let two = text("ab").repeat(LENGTH / 2);
+    let twice = [&two[..NEEDLE / 2], &[0x62], &two[..NEEDLE / 2 - 1]].concat();
+    race_long("two units repeated, and one of them twice", &two, &twice, Some(ordinary));
+    let three = text("aab").repeat(LENGTH / 3);
+    let missing = [&three[..NEEDLE / 2], &three[1..NEEDLE / 2 + 1]].concat();
+    race_long("three units repeated, and one of them missing", &three, &missing, Some(ordinary));
+    let mixed: Vec<u16> = ordinary_text.iter().map(|unit| 0x61 + unit % 2).collect();
+    race_long("two units at random, and another last unit", &mixed, &then(&mixed[..NEEDLE - 1], 0x63), Some(ordinary));
+    let other_half = [&mixed[..NEEDLE / 2], &mixed[LENGTH / 2..LENGTH / 2 + NEEDLE / 2]].concat();
+    race_long("two units at random, and other units", &mixed, &other_half, Some(ordinary));
     let pattern = text("abcdefgh").repeat(LENGTH / 8);
     race_long("eight units repeated, and another last unit", &pattern, &then(&pattern[..NEEDLE - 1], 0x7a), Some(ordinary));
     let woven = fibonacci(LENGTH);

@@ -28,6 +28,7 @@
 //! laws of these definitions.
 #![tactic(auto)]
 
+mod blocks;
 mod char_set;
 mod chars;
 mod comparisons;

@@ -8,6 +8,7 @@ ghost use Rattle.wide_search.specs.Probes.{IsProbe};
 ghost use Rattle.wide_search.specs.Sought.{units_of_few};
 ghost use Rattle.wide_steps.specs.Counted.{counted, AddsAtMost};
 
+use crate::blocks::may_begin_with;
 use crate::comparisons::{
     COMPARED_BEFORE_BLOCKS, are_same_after_first, are_same_from_first, near_prefix, shared_prefix,
 };
@@ -45,8 +46,8 @@ pub(crate) trait Needle<C: Unit>: Copy {
         requires { take 1 (sought self) ≡ take 1 units.now }
         ensures { IsTrue result ↔ OccursAt (sought self) units.now 0 };
 
-    // Returns false only if the units do not begin with the needle. It compares two units, and may return true if
-    // either list has fewer.
+    // Returns false only if the units do not begin with the needle. It compares sixteen units at most, in one step, and
+    // may return true if either list has fewer.
     fn may_be_prefix_of(self, units: &[C]) -> bool
         ensures { OccursAt (sought self) units.now 0 → IsTrue result };
 
@@ -154,12 +155,7 @@ impl<C: Unit> Needle<C> for Slice<'_, C> {
 
     #[inline(always)]
     fn may_be_prefix_of(self, units: &[C]) -> bool {
-        match (self.units, units) {
-            ([first, second, ..], [other, next, ..]) => {
-                first.code() == other.code() && second.code() == next.code()
-            }
-            _ => true,
-        }
+        may_begin_with(units, self.units)
     }
 
     fn matched_one_by_one(self, units: &[C]) -> usize {

@@ -53,10 +53,10 @@ fn find_each<C: Unit, P: Needle<C>>(
     requires before { (k : ℕ) → k < from → ¬ (OccursAt (P.sought needle) units.now k) }
     ensures grows { counted steps.old ≤ counted steps.new }
     ensures matched { 512 < length (P.sought needle) → length (P.sought needle) < 2 ^ 57 → result.1 ≤ 65 * length (P.sought needle) }
-    ensures narrow { length (P.sought needle) ≤ 512 → AddsAtMost steps.old steps.new (515 * (result.0.at - from) + 515) }
-    ensures wide { 512 < length (P.sought needle) → length (P.sought needle) < 2 ^ 57 → AddsAtMost steps.old steps.new (3 * (result.0.at - from) + result.1 + length (P.sought needle) + 3) }
-    ensures narrow_unfound { ¬ (IsTrue result.0.is_found) → length (P.sought needle) ≤ 512 → AddsAtMost steps.old steps.new (515 * (result.0.at - from)) }
-    ensures wide_unfound { ¬ (IsTrue result.0.is_found) → 512 < length (P.sought needle) → length (P.sought needle) < 2 ^ 57 → AddsAtMost steps.old steps.new (3 * (result.0.at - from) + result.1) }
+    ensures narrow { length (P.sought needle) ≤ 512 → AddsAtMost steps.old steps.new (528 * (result.0.at - from) + 528) }
+    ensures wide { 512 < length (P.sought needle) → length (P.sought needle) < 2 ^ 57 → AddsAtMost steps.old steps.new (16 * (result.0.at - from) + result.1 + length (P.sought needle) + 16) }
+    ensures narrow_unfound { ¬ (IsTrue result.0.is_found) → length (P.sought needle) ≤ 512 → AddsAtMost steps.old steps.new (528 * (result.0.at - from)) }
+    ensures wide_unfound { ¬ (IsTrue result.0.is_found) → 512 < length (P.sought needle) → length (P.sought needle) < 2 ^ 57 → AddsAtMost steps.old steps.new (16 * (result.0.at - from) + result.1) }
     ensures after { from ≤ result.0.at }
     ensures within { result.0.at ≤ length units.now }
     ensures here { IsTrue result.0.is_found → OccursAt (P.sought needle) units.now result.0.at }
@@ -78,8 +78,8 @@ fn find_each<C: Unit, P: Needle<C>>(
     while at < end && all_matched <= most {
         let (_, here) = units.split_at(at);
         if is_counted {
-            tick(steps, 3);
-            // Fewer than two units that match are not counted.
+            tick(steps, LANES);
+            // Units that match are not counted where a block differs.
             if needle.may_be_prefix_of(here) {
                 let matched = needle.matched_one_by_one(here);
                 tick(steps, matched);

@@ -49,9 +49,9 @@ fn rfind_each<C: Unit, P: Needle<C>>(
     requires beyond { (k : ℕ) → end ≤ k → ¬ (OccursAt (P.sought needle) units.now k) }
     ensures matched { 16 ≤ length (P.sought needle) → length (P.sought needle) < 2 ^ 57 → result.1 ≤ 65 * length (P.sought needle) }
     ensures few { length (P.sought needle) < 16 → AddsAtMost steps.old steps.new (16 * (end - result.0.at) + 16) }
-    ensures many { 16 ≤ length (P.sought needle) → length (P.sought needle) < 2 ^ 57 → AddsAtMost steps.old steps.new (3 * (end - result.0.at) + result.1 + length (P.sought needle) + 3) }
+    ensures many { 16 ≤ length (P.sought needle) → length (P.sought needle) < 2 ^ 57 → AddsAtMost steps.old steps.new (16 * (end - result.0.at) + result.1 + length (P.sought needle) + 16) }
     ensures few_unfound { ¬ (IsTrue result.0.is_found) → length (P.sought needle) < 16 → AddsAtMost steps.old steps.new (16 * (end - result.0.at)) }
-    ensures many_unfound { ¬ (IsTrue result.0.is_found) → 16 ≤ length (P.sought needle) → length (P.sought needle) < 2 ^ 57 → AddsAtMost steps.old steps.new (3 * (end - result.0.at) + result.1) }
+    ensures many_unfound { ¬ (IsTrue result.0.is_found) → 16 ≤ length (P.sought needle) → length (P.sought needle) < 2 ^ 57 → AddsAtMost steps.old steps.new (16 * (end - result.0.at) + result.1) }
     ensures within { result.0.at ≤ end }
     ensures here { IsTrue result.0.is_found → OccursAt (P.sought needle) units.now (result.0.at - 1) × (0 < result.0.at) }
     ensures beyond { (k : ℕ) → result.0.at ≤ k → ¬ (OccursAt (P.sought needle) units.now k) }
@@ -72,8 +72,8 @@ fn rfind_each<C: Unit, P: Needle<C>>(
     while at > last && all_matched <= most {
         let (_, here) = units.split_at(at - 1);
         if is_counted {
-            tick(steps, 3);
-            // Fewer than two units that match are not counted.
+            tick(steps, LANES);
+            // Units that match are not counted where a block differs.
             if needle.may_be_prefix_of(here) {
                 let matched = needle.matched_one_by_one(here);
                 tick(steps, matched);

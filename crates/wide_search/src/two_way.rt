@@ -4,7 +4,7 @@
 
 ghost use Rattle.std.specs.Prelude.{◌≡◌, ◌≢◌, ◌+◌, ◌-◌, ◌*◌, ◌<◌, ◌≤◌, ℕ, IsTrue, length, map};
 ghost use Rattle.wide_search.specs.Lowercased.{lowercased};
-ghost use Rattle.wide_search.specs.NextOccurrences.{number_from, number_read, IsStop};
+ghost use Rattle.wide_search.specs.NextOccurrences.{number_from, number_read, IsStop, OccursFrom};
 ghost use Rattle.wide_search.specs.Occurrences.{OccursAt};
 ghost use Rattle.wide_steps.specs.Counted.{counted, AddsAtMost};
 
@@ -99,12 +99,72 @@ fn is_pair_nearby<C: Unit, S: Side>(units: &[C], needle: &[C], at: usize, steps:
     false
 }
 
+// Returns whether the units at two indices of the needle match those of the text if the needle is at `at`. It counts
+// each comparison: one if the first unit differs or the indices are the same, else two.
+#[inline(always)]
+fn do_both_match<C: Unit, S: Side>(
+    units: &[C],
+    needle: &[C],
+    at: usize,
+    one: usize,
+    other: usize,
+    steps: &mut Steps,
+) -> bool
+    requires fits { at + length needle.now ≤ length units.now }
+    requires one { one < length needle.now }
+    requires other { other < length needle.now }
+    ensures steps { AddsAtMost steps.old steps.new 2 }
+    ensures alone { one ≡ other → AddsAtMost steps.old steps.new 1 }
+    ensures differ { ¬ (IsTrue result) → ¬ (OccursFrom S.BACK (number_read S.READ C.number) needle.now units.now at) }
+{
+    tick(steps, 1);
+    if S::unit(units, at + one) != S::unit(needle, one) {
+        return false;
+    }
+    if one == other {
+        return true;
+    }
+    tick(steps, 1);
+    S::unit(units, at + other) == S::unit(needle, other)
+}
+
+// Returns the first offset from `from` on at which the units at two indices of the needle match, or the first at which
+// the needle doesn't fit. The needle occurs at none of those before it. It counts each comparison.
+#[inline(always)]
+fn next_match<C: Unit, S: Side>(
+    units: &[C],
+    needle: &[C],
+    from: usize,
+    one: usize,
+    other: usize,
+    steps: &mut Steps,
+) -> usize
+    requires fits { length needle.now ≤ length units.now }
+    requires one { one < length needle.now }
+    requires other { other < length needle.now }
+    requires within { from ≤ length units.now }
+    ensures steps { AddsAtMost steps.old steps.new (2 * (result - from) + 2) }
+    ensures alone { one ≡ other → AddsAtMost steps.old steps.new (2 * (result - from) + 1) }
+    ensures after { from ≤ result }
+    ensures within { result ≤ length units.now }
+    ensures before { (k : ℕ) → from ≤ k → k < result → ¬ (OccursFrom S.BACK (number_read S.READ C.number) needle.now units.now k) }
+{
+    let last = units.len() - needle.len();
+    let mut at = from;
+    while at <= last && !do_both_match::<C, S>(units, needle, at, one, other, steps) {
+        at += 1;
+    }
+    at
+}
+
 // Returns the first offset from `from` on at which the needle occurs, or one before which it does not occur: near the
 // end, or where the text may no longer repeat itself. Offsets and units are counted from the side.
 //
 // The second part of the needle is compared before the first part. A difference in it rules out as many offsets as
-// units were compared. If only the first part differs, the next offset is at least a period further; if the needle has
-// the period of its second part, the units that it has in common with itself at this distance are not compared again.
+// units were compared, and those after them at which the first unit of that part or the unit that differed would not
+// match: a text that repeats itself differs there again and again. If only the first part differs, the next offset is
+// at least a period further; if the needle has the period of its second part, the units that it has in common with
+// itself at this distance are not compared again.
 //
 // It counts each comparison of two units, those of the factorization too.
 #[inline(never)]
@@ -136,7 +196,8 @@ fn next_occurrence<C: Unit, S: Side>(
         let start = parts.cut.max(known);
         let index = first_difference::<C, S>(units, needle, at, start, len, steps);
         if index < len {
-            at += index - parts.cut + 1;
+            let next = at + (index - parts.cut + 1);
+            at = next_match::<C, S>(units, needle, next, parts.cut, index, steps);
             known = 0;
             continue;
         }

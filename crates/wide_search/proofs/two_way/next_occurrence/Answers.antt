@@ -1,4 +1,4 @@
-use Rattle.std.proofs.Common.{◌≡◌, ◌-◌, ◌+◌, ◌<◌, ◌≤◌, ℕ, inl, inr, sym, subst, length, arith}
+use Rattle.std.proofs.Common.{◌≡◌, ◌-◌, ◌+◌, ◌*◌, ◌<◌, ◌≤◌, ℕ, inl, inr, sym, subst, length, arith}
 use Rattle.std.proofs.lemmas.Bool.{cases_lt}
 use Rattle.std.specs.Str.Critical.{IsRepeat}
 use Rattle.wide_search.specs.NextOccurrences.{number_from, number_read, OccursFrom}
@@ -29,15 +29,24 @@ loop-at-preserved-then-index-len g c =
       | else-at-stop w ↦
           subst (λ next. IsSpent base m c.args.from at past next (counted c.if-at-stop.steps)) (sym w.stop-is) (subst (λ t. IsSpent base m c.args.from at past c.loop-at.stop (counted t)) (sym w.steps-is) c.loop-at.invariant.spent)
     ] in
+    let next = at + (index - parts.cut + 1) in
+    let on = c.next_match-at.result in
+    let occurs = OccursFrom g.S.Side.BACK (number_read g.S.Side.READ g.C.Unit.number) c.args.needle.now c.args.units.now in
+    let passed : (k : ℕ) → at ≤ k → k < next → ¬ (occurs k) = none-until x m parts c.factorize-parts.ensures.parts h (length c.args.units.now) at index (omega arith) c.if-index-len.true same differ in
+    let cost : counted c.next_match-at.new.steps + past ≤ counted c.if-at-stop.steps + (0 - parts.cut) + 2 * (on - at) =
+    elim (cases_lt parts.cut index) [
+      | inl above ↦ omega (arith, above, c.first_difference-index.ensures.steps, c.first_difference-index.ensures.after, c.max-start.ensures, c.next_match-at.ensures.steps.1, c.next_match-at.ensures.after)
+      | inr below ↦ (let same_index : parts.cut ≡ index = omega (arith, below, c.first_difference-index.ensures.after, c.max-start.ensures) in
+          omega (arith, same_index, c.first_difference-index.ensures.steps, c.first_difference-index.ensures.after, c.max-start.ensures, (c.next_match-at.ensures.alone same_index).1, c.next_match-at.ensures.after))
+    ] in
     record {
-      within = omega (arith, c.factorize-parts.ensures.parts.below);
-      after = omega arith;
+      within = c.next_match-at.ensures.within;
+      after = omega (arith, c.next_match-at.ensures.after);
       few = omega arith;
-      before = nowhere-further (OccursFrom g.S.Side.BACK (number_read g.S.Side.READ g.C.Unit.number) c.args.needle.now c.args.units.now) c.args.from at (at + (index - parts.cut + 1)) c.loop-at.invariant.before
-          (none-until x m parts c.factorize-parts.ensures.parts h (length c.args.units.now) at index (omega arith) c.if-index-len.true same differ);
+      before = nowhere-further occurs c.args.from next on (nowhere-further occurs c.args.from at next c.loop-at.invariant.before passed) c.next_match-at.ensures.before;
       same = λ k l. absurd (omega (arith, l));
-      spent = spent-comparing base m c.args.from at past c.if-at-stop.stop (counted c.if-at-stop.steps) (at + (index - parts.cut + 1)) (0 - parts.cut) (counted c.first_difference-index.new.steps) c.loop-at.invariant.after (omega arith)
-          (omega (arith, c.first_difference-index.ensures.steps, c.first_difference-index.ensures.after)) (omega (arith, c.first_difference-index.ensures.steps, c.first_difference-index.ensures.after, c.max-start.ensures)) looked;
+      spent = spent-comparing base m c.args.from at past c.if-at-stop.stop (counted c.if-at-stop.steps) on (0 - parts.cut) (counted c.next_match-at.new.steps) c.loop-at.invariant.after (omega (arith, c.next_match-at.ensures.after))
+          (omega (arith, c.first_difference-index.ensures.steps, c.first_difference-index.ensures.after, c.next_match-at.ensures.steps.0)) cost looked;
     }
 
 pub returns-then-first-parts-clause-stop : goal.returns-then-first-parts-clause-stop
