@@ -1,7 +1,7 @@
 //! Compares the first units of a needle with those at an offset in SIMD lanes, all in one step, so that no branch depends
 //! on which of them differ: where each unit often matches by chance, a processor cannot predict such a branch.
 
-ghost use Rattle.std.specs.Prelude.{◌≡◌, length, IsTrue};
+ghost use Rattle.std.specs.Prelude.{◌≡◌, ◌<◌, ◌≤◌, ℕ, length, IsTrue};
 ghost use Rattle.std.proofs.Common.{rules};
 ghost use Rattle.wide_search.specs.Occurrences.{OccursAt};
 
@@ -73,4 +73,22 @@ pub(crate) fn may_begin_with<C: Unit>(units: &[C], needle: &[C]) -> bool
         (AnyUnits::U32(needle), AnyUnits::U32(units)) => may_begin(needle, units),
         _ => true,
     }
+}
+
+// Returns how many offsets are passed over, at most `most`, before one at which a block does not differ. The needle
+// occurs at none of them.
+pub(crate) fn passed_by_blocks<C: Unit>(units: &[C], needle: &[C], most: usize) -> usize
+    ensures within { result ≤ most }
+    ensures before { (k : ℕ) → k < result → ¬ (OccursAt needle.now units.now k) }
+{
+    let end = most.min(units.len());
+    let mut at = 0;
+    while at < end {
+        let (_, here) = units.split_at(at);
+        if may_begin_with(here, needle) {
+            return at;
+        }
+        at += 1;
+    }
+    at
 }

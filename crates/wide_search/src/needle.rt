@@ -8,7 +8,7 @@ ghost use Rattle.wide_search.specs.Probes.{IsProbe};
 ghost use Rattle.wide_search.specs.Sought.{units_of_few};
 ghost use Rattle.wide_steps.specs.Counted.{counted, AddsAtMost};
 
-use crate::blocks::may_begin_with;
+use crate::blocks::{may_begin_with, passed_by_blocks};
 use crate::comparisons::{
     COMPARED_BEFORE_BLOCKS, are_same_after_first, are_same_from_first, near_prefix, shared_prefix,
 };
@@ -50,6 +50,12 @@ pub(crate) trait Needle<C: Unit>: Copy {
     // may return true if either list has fewer.
     fn may_be_prefix_of(self, units: &[C]) -> bool
         ensures { OccursAt (sought self) units.now 0 → IsTrue result };
+
+    // Returns how many offsets are passed over, at most `most`, at none of which the needle occurs. At each of them it
+    // compares as `may_be_prefix_of`.
+    fn passed_over(self, units: &[C], most: usize) -> usize
+        ensures within { result ≤ most }
+        ensures before { (k : ℕ) → k < result → ¬ (OccursAt (sought self) units.now k) };
 
     // Returns how many units at the beginning are those of the needle, compared one by one. If there are fewer units
     // than the needle has, it may return a smaller number.
@@ -158,6 +164,10 @@ impl<C: Unit> Needle<C> for Slice<'_, C> {
         may_begin_with(units, self.units)
     }
 
+    fn passed_over(self, units: &[C], most: usize) -> usize {
+        passed_by_blocks(units, self.units, most)
+    }
+
     fn matched_one_by_one(self, units: &[C]) -> usize {
         if units.len() < self.units.len() {
             return 0;
@@ -245,6 +255,10 @@ impl<C: Unit> Needle<C> for Few<C> {
 
     fn may_be_prefix_of(self, units: &[C]) -> bool {
         self.is_prefix_of(units)
+    }
+
+    fn passed_over(self, _units: &[C], _most: usize) -> usize {
+        0
     }
 
     fn matched_one_by_one(self, units: &[C]) -> usize {

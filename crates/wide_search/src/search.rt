@@ -36,6 +36,28 @@ fn skip<C: Unit>(units: &[C], count: usize, probe: Probe<C>) -> usize
     first_pair(firsts, lasts, probe.first, probe.last)
 }
 
+// Returns how many offsets from `at` to before `end` are passed over, at none of which the needle occurs. It counts as
+// many steps for each of them as a block has units.
+#[inline(always)]
+fn pass_over<C: Unit, P: Needle<C>>(
+    units: &[C],
+    needle: P,
+    at: usize,
+    end: usize,
+    steps: &mut Steps,
+) -> usize
+    requires ordered { at ≤ end }
+    requires within { end ≤ length units.now }
+    ensures steps { AddsAtMost steps.old steps.new (16 * result) }
+    ensures within { at + result ≤ end }
+    ensures before { (k : ℕ) → at ≤ k → k < at + result → ¬ (OccursAt (P.sought needle) units.now k) }
+{
+    let (_, rest) = units.split_at(at);
+    let passed = needle.passed_over(rest, end - at);
+    tick(steps, passed.saturating_mul(LANES));
+    passed
+}
+
 // Searches on from an offset before which the needle does not occur, offset by offset. It makes `tries` tries, or fewer
 // if it reaches the end of the text or too many units match. `matched` is how many units matched at the last try before
 // the call. Returns where it stopped, and how many units matched in vain. For a short needle that number is an
@@ -93,6 +115,9 @@ fn find_each<C: Unit, P: Needle<C>>(
             return (Stop::found(at), all_matched);
         }
         at += 1;
+        if is_counted {
+            at += pass_over(units, needle, at, end, steps);
+        }
     }
     (Stop::unfound(at), all_matched)
 }
