@@ -8,6 +8,9 @@ ghost use Rattle.wide_search.specs.Occurrences.{OccursAt};
 use std::simd::prelude::*;
 use wide_unit::{AnyUnits, Unit};
 
+// How many units a block has. With fewer, more blocks are the same by chance; with more, each comparison reads more.
+pub(crate) const BLOCK: usize = 8;
+
 // A code unit that fits a SIMD lane.
 trait Lane: Copy {
     ghost use Rattle.std.specs.Prelude.{ℕ};
@@ -25,13 +28,13 @@ trait Lane: Copy {
 }
 
 impl Lane for u16 {
-    ghost COUNT = { 16 };
+    ghost COUNT = { 8 };
 
-    const COUNT: usize = 16;
+    const COUNT: usize = BLOCK;
 
     #[inline(always)]
     fn do_differ(left: &[u16], right: &[u16]) -> bool {
-        let differ = u16x16::from_slice(left).simd_ne(u16x16::from_slice(right));
+        let differ = u16x8::from_slice(left).simd_ne(u16x8::from_slice(right));
         differ.to_bitmask() != 0
     }
 }
@@ -39,7 +42,7 @@ impl Lane for u16 {
 impl Lane for u32 {
     ghost COUNT = { 8 };
 
-    const COUNT: usize = 8;
+    const COUNT: usize = BLOCK;
 
     #[inline(always)]
     fn do_differ(left: &[u32], right: &[u32]) -> bool {
@@ -62,8 +65,8 @@ fn may_begin<L: Lane>(needle: &[L], units: &[L]) -> bool
     !L::do_differ(first, here)
 }
 
-// Returns false only if the units do not begin with the needle. It compares a block of each, sixteen units at most, and
-// returns true if either has fewer.
+// Returns false only if the units do not begin with the needle. It compares a block of each, which has `BLOCK` units,
+// and returns true if either has fewer.
 #[inline(always)]
 pub(crate) fn may_begin_with<C: Unit>(units: &[C], needle: &[C]) -> bool
     ensures { OccursAt needle.now units.now 0 → IsTrue result }

@@ -46,7 +46,7 @@ pub(crate) trait Needle<C: Unit>: Copy {
         requires { take 1 (sought self) ≡ take 1 units.now }
         ensures { IsTrue result ↔ OccursAt (sought self) units.now 0 };
 
-    // Returns false only if the units do not begin with the needle. It compares sixteen units at most, in one step, and
+    // Returns false only if the units do not begin with the needle. It compares eight units at most, in one step, and
     // may return true if either list has fewer.
     fn may_be_prefix_of(self, units: &[C]) -> bool
         ensures { OccursAt (sought self) units.now 0 → IsTrue result };

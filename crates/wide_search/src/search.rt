@@ -7,6 +7,7 @@ ghost use Rattle.wide_search.specs.Occurrences.{IsFirstAt, OccursAt, OccursNowhe
 ghost use Rattle.wide_search.specs.Probes.{IsProbe};
 ghost use Rattle.wide_steps.specs.Counted.{counted, AddsAtMost};
 
+use crate::blocks::BLOCK;
 use crate::costs::{Costs, Turn};
 use crate::limits::{
     FREQUENT_GAP, LEAST_COUNTED_LEN, MATCHED_PER_NEEDLE_UNIT, NEEDLE_UNITS_PER_GAP_UNIT,
@@ -48,13 +49,13 @@ fn pass_over<C: Unit, P: Needle<C>>(
 ) -> usize
     requires ordered { at ≤ end }
     requires within { end ≤ length units.now }
-    ensures steps { AddsAtMost steps.old steps.new (16 * result) }
+    ensures steps { AddsAtMost steps.old steps.new (8 * result) }
     ensures within { at + result ≤ end }
     ensures before { (k : ℕ) → at ≤ k → k < at + result → ¬ (OccursAt (P.sought needle) units.now k) }
 {
     let (_, rest) = units.split_at(at);
     let passed = needle.passed_over(rest, end - at);
-    tick(steps, passed.saturating_mul(LANES));
+    tick(steps, passed.saturating_mul(BLOCK));
     passed
 }
 
@@ -75,10 +76,10 @@ fn find_each<C: Unit, P: Needle<C>>(
     requires before { (k : ℕ) → k < from → ¬ (OccursAt (P.sought needle) units.now k) }
     ensures grows { counted steps.old ≤ counted steps.new }
     ensures matched { 512 < length (P.sought needle) → length (P.sought needle) < 2 ^ 57 → result.1 ≤ 65 * length (P.sought needle) }
-    ensures narrow { length (P.sought needle) ≤ 512 → AddsAtMost steps.old steps.new (528 * (result.0.at - from) + 528) }
-    ensures wide { 512 < length (P.sought needle) → length (P.sought needle) < 2 ^ 57 → AddsAtMost steps.old steps.new (16 * (result.0.at - from) + result.1 + length (P.sought needle) + 16) }
-    ensures narrow_unfound { ¬ (IsTrue result.0.is_found) → length (P.sought needle) ≤ 512 → AddsAtMost steps.old steps.new (528 * (result.0.at - from)) }
-    ensures wide_unfound { ¬ (IsTrue result.0.is_found) → 512 < length (P.sought needle) → length (P.sought needle) < 2 ^ 57 → AddsAtMost steps.old steps.new (16 * (result.0.at - from) + result.1) }
+    ensures narrow { length (P.sought needle) ≤ 512 → AddsAtMost steps.old steps.new (520 * (result.0.at - from) + 520) }
+    ensures wide { 512 < length (P.sought needle) → length (P.sought needle) < 2 ^ 57 → AddsAtMost steps.old steps.new (8 * (result.0.at - from) + result.1 + length (P.sought needle) + 8) }
+    ensures narrow_unfound { ¬ (IsTrue result.0.is_found) → length (P.sought needle) ≤ 512 → AddsAtMost steps.old steps.new (520 * (result.0.at - from)) }
+    ensures wide_unfound { ¬ (IsTrue result.0.is_found) → 512 < length (P.sought needle) → length (P.sought needle) < 2 ^ 57 → AddsAtMost steps.old steps.new (8 * (result.0.at - from) + result.1) }
     ensures after { from ≤ result.0.at }
     ensures within { result.0.at ≤ length units.now }
     ensures here { IsTrue result.0.is_found → OccursAt (P.sought needle) units.now result.0.at }
@@ -100,7 +101,7 @@ fn find_each<C: Unit, P: Needle<C>>(
     while at < end && all_matched <= most {
         let (_, here) = units.split_at(at);
         if is_counted {
-            tick(steps, LANES);
+            tick(steps, BLOCK);
             // Units that match are not counted where a block differs.
             if needle.may_be_prefix_of(here) {
                 let matched = needle.matched_one_by_one(here);

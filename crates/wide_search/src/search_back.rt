@@ -7,6 +7,7 @@ ghost use Rattle.wide_search.specs.Occurrences.{IsLastAt, OccursAt, OccursNowher
 ghost use Rattle.wide_search.specs.Probes.{IsProbe};
 ghost use Rattle.wide_steps.specs.Counted.{AddsAtMost};
 
+use crate::blocks::BLOCK;
 use crate::costs::{Costs, Turn};
 use crate::limits::{LEAST_COUNTED_LEN, MATCHED_PER_NEEDLE_UNIT, SHORT_TEXT, TRIES_FROM_BACK};
 use crate::needle::{Needle, Probe, begins_with, matched};
@@ -49,9 +50,9 @@ fn rfind_each<C: Unit, P: Needle<C>>(
     requires beyond { (k : ℕ) → end ≤ k → ¬ (OccursAt (P.sought needle) units.now k) }
     ensures matched { 16 ≤ length (P.sought needle) → length (P.sought needle) < 2 ^ 57 → result.1 ≤ 65 * length (P.sought needle) }
     ensures few { length (P.sought needle) < 16 → AddsAtMost steps.old steps.new (16 * (end - result.0.at) + 16) }
-    ensures many { 16 ≤ length (P.sought needle) → length (P.sought needle) < 2 ^ 57 → AddsAtMost steps.old steps.new (16 * (end - result.0.at) + result.1 + length (P.sought needle) + 16) }
+    ensures many { 16 ≤ length (P.sought needle) → length (P.sought needle) < 2 ^ 57 → AddsAtMost steps.old steps.new (8 * (end - result.0.at) + result.1 + length (P.sought needle) + 8) }
     ensures few_unfound { ¬ (IsTrue result.0.is_found) → length (P.sought needle) < 16 → AddsAtMost steps.old steps.new (16 * (end - result.0.at)) }
-    ensures many_unfound { ¬ (IsTrue result.0.is_found) → 16 ≤ length (P.sought needle) → length (P.sought needle) < 2 ^ 57 → AddsAtMost steps.old steps.new (16 * (end - result.0.at) + result.1) }
+    ensures many_unfound { ¬ (IsTrue result.0.is_found) → 16 ≤ length (P.sought needle) → length (P.sought needle) < 2 ^ 57 → AddsAtMost steps.old steps.new (8 * (end - result.0.at) + result.1) }
     ensures within { result.0.at ≤ end }
     ensures here { IsTrue result.0.is_found → OccursAt (P.sought needle) units.now (result.0.at - 1) × (0 < result.0.at) }
     ensures beyond { (k : ℕ) → result.0.at ≤ k → ¬ (OccursAt (P.sought needle) units.now k) }
@@ -72,7 +73,7 @@ fn rfind_each<C: Unit, P: Needle<C>>(
     while at > last && all_matched <= most {
         let (_, here) = units.split_at(at - 1);
         if is_counted {
-            tick(steps, LANES);
+            tick(steps, BLOCK);
             // Units that match are not counted where a block differs.
             if needle.may_be_prefix_of(here) {
                 let matched = needle.matched_one_by_one(here);

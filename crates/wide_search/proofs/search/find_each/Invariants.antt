@@ -10,8 +10,8 @@ invariant-loop-at g l = record {
   within : l.at ≤ length l.units;
   before : (earlier : ℕ) → earlier < l.at → ¬ (OccursAt (g.P.Needle.sought l.needle) l.units earlier);
   grows : counted l.fn.steps ≤ counted l.steps;
-  narrow : length (g.P.Needle.sought l.needle) ≤ 512 → counted l.steps ≤ counted l.fn.steps + 528 * (l.at - l.from);
-  wide : 512 < length (g.P.Needle.sought l.needle) → length (g.P.Needle.sought l.needle) < 144115188075855872 → counted l.steps ≤ counted l.fn.steps + 16 * (l.at - l.from) + l.all_matched;
+  narrow : length (g.P.Needle.sought l.needle) ≤ 512 → counted l.steps ≤ counted l.fn.steps + 520 * (l.at - l.from);
+  wide : 512 < length (g.P.Needle.sought l.needle) → length (g.P.Needle.sought l.needle) < 144115188075855872 → counted l.steps ≤ counted l.fn.steps + 8 * (l.at - l.from) + l.all_matched;
   matched : 512 < length (g.P.Needle.sought l.needle) → length (g.P.Needle.sought l.needle) < 144115188075855872 → l.all_matched ≤ 65 * length (g.P.Needle.sought l.needle);
 }
 

@@ -10,7 +10,7 @@ invariant-loop-at g l = record {
   beyond : (later : ℕ) → l.at ≤ later → ¬ (OccursAt (g.P.Needle.sought l.needle) l.units later);
   grows : counted l.fn.steps ≤ counted l.steps;
   few : length (g.P.Needle.sought l.needle) < 16 → counted l.steps + 16 * l.at ≤ counted l.fn.steps + 16 * l.end;
-  many : 16 ≤ length (g.P.Needle.sought l.needle) → length (g.P.Needle.sought l.needle) < 144115188075855872 → counted l.steps + 16 * l.at ≤ counted l.fn.steps + 16 * l.end + l.all_matched;
+  many : 16 ≤ length (g.P.Needle.sought l.needle) → length (g.P.Needle.sought l.needle) < 144115188075855872 → counted l.steps + 8 * l.at ≤ counted l.fn.steps + 8 * l.end + l.all_matched;
   matched : 16 ≤ length (g.P.Needle.sought l.needle) → length (g.P.Needle.sought l.needle) < 144115188075855872 → l.all_matched ≤ 65 * length (g.P.Needle.sought l.needle);
 }
 
