@@ -96,58 +96,60 @@ fn then(units: &[u16], unit: u16) -> Vec<u16> {
     [units, &[unit]].concat()
 }
 
-/// Returns a unit, and then units.
-fn after(unit: u16, units: &[u16]) -> Vec<u16> {
-    [&[unit], units].concat()
+/// Returns units, one more, and others.
+fn joined(units: &[u16], unit: u16, others: &[u16]) -> Vec<u16> {
+    [units, &[unit], others].concat()
 }
 
-/// Prints the library's time for a long needle, as multiples of `memmem`'s and of its own time for an ordinary text.
-fn race_long(name: &str, units: &[u16], needle: &[u16], ordinary: Option<f64>) -> f64 {
+/// Prints the library's time for a long needle, as multiples of `memmem`'s and of its own time for ordinary units.
+fn race_long(name: &str, units: &[u16], needle: &[u16], ordinary: (&[u16], &[u16])) {
     let offset = memmem(units, needle);
     let mut runners = vec![
         clock::round(1, || find(black_box(units), black_box(needle)) == offset),
         clock::round(1, || memmem(black_box(units), black_box(needle)) == offset),
+        clock::round(1, || find(black_box(ordinary.0), black_box(ordinary.1)).is_none()),
     ];
-    let times = clock::best_times(12, &mut runners);
+    let times = clock::best_times(20, &mut runners);
     print!("{name:<44} {:>9} units {:>12.0} ns ", units.len(), times[0]);
-    println!(" {:.2} {:.2}", times[0] / times[1], times[0] / ordinary.unwrap_or(times[0]));
-    times[0]
+    println!(" {:.2} {:.2}", times[0] / times[1], times[0] / times[2]);
+}
+
+/// Returns `length` units of the same few, over and over.
+fn repeated(units: &str, length: usize) -> Vec<u16> {
+    text(units).into_iter().cycle().take(length).collect()
 }
 
 /// Races a needle of 10,000 units in a text of a million that are made so that much of it occurs at many offsets.
 fn long_needles() {
     const LENGTH: usize = 1_000_000;
     const NEEDLE: usize = 10_000;
-    println!("a needle of {NEEDLE} units: the library's time, and it as a multiple of memmem's and of the ordinary text's");
-    let ordinary_text = words(LENGTH);
-    let absent = then(&ordinary_text[1000..1000 + NEEDLE - 1], 0x3042);
-    let ordinary = race_long("words, and a unit that is not there", &ordinary_text, &absent, None);
-    let other = then(&ordinary_text[LENGTH / 2..LENGTH / 2 + NEEDLE - 1], 0x7b);
-    race_long("words, and another last unit", &ordinary_text, &other, Some(ordinary));
-    let alike = vec![0x61; LENGTH];
-    race_long("one unit everywhere, and another last unit", &alike, &then(&alike[..NEEDLE - 1], 0x62), Some(ordinary));
-    race_long("another first unit, and one unit everywhere", &alike, &after(0x62, &alike[..NEEDLE - 1]), Some(ordinary));
-    let half = [&alike[..NEEDLE / 2], &[0x62], &alike[..NEEDLE / 2 - 1]].concat();
-    race_long("another unit in the middle", &alike, &half, Some(ordinary));
-    let nearly = [&alike[..NEEDLE - 1], &[0x62]].concat().repeat(LENGTH / NEEDLE);
-    race_long("a unit that is late once in each 10,000", &nearly, &alike[..NEEDLE], Some(ordinary));
-    let two = text("ab").repeat(LENGTH / 2);
-    let twice = [&two[..NEEDLE / 2], &[0x62], &two[..NEEDLE / 2 - 1]].concat();
-    race_long("two units repeated, and one of them twice", &two, &twice, Some(ordinary));
-    let three = text("aab").repeat(LENGTH / 3);
+    println!("a needle of {NEEDLE} units: the library's time, and it as a multiple of memmem's and of that for words");
+    let words = words(LENGTH);
+    let absent = then(&words[1000..1000 + NEEDLE - 1], 0x7b);
+    let race = |name, units: &[u16], needle: &[u16]| race_long(name, units, needle, (&words, &absent));
+    race("words, and another last unit", &words, &absent);
+    race("words, and another unit in the middle", &words, &joined(&words[..NEEDLE / 2], 0x7b, &words[..NEEDLE / 2 - 1]));
+    let alike = repeated("a", LENGTH);
+    race("one unit everywhere, and another last unit", &alike, &then(&alike[..NEEDLE - 1], 0x62));
+    race("another first unit, and one unit everywhere", &alike, &joined(&[], 0x62, &alike[..NEEDLE - 1]));
+    race("another unit in the middle", &alike, &joined(&alike[..NEEDLE / 2], 0x62, &alike[..NEEDLE / 2 - 1]));
+    let nearly = then(&alike[..NEEDLE - 1], 0x62).repeat(LENGTH / NEEDLE);
+    race("a unit that is late once in each 10,000", &nearly, &alike[..NEEDLE]);
+    let two = repeated("ab", LENGTH);
+    race("two units repeated, and one of them twice", &two, &joined(&two[..NEEDLE / 2], 0x62, &two[..NEEDLE / 2 - 1]));
+    let three = repeated("aab", LENGTH);
     let missing = [&three[..NEEDLE / 2], &three[1..NEEDLE / 2 + 1]].concat();
-    race_long("three units repeated, and one of them missing", &three, &missing, Some(ordinary));
-    let mixed: Vec<u16> = ordinary_text.iter().map(|unit| 0x61 + unit % 2).collect();
-    race_long("two units at random, and another last unit", &mixed, &then(&mixed[..NEEDLE - 1], 0x63), Some(ordinary));
-    let other_half = [&mixed[..NEEDLE / 2], &mixed[LENGTH / 2..LENGTH / 2 + NEEDLE / 2]].concat();
-    race_long("two units at random, and other units", &mixed, &other_half, Some(ordinary));
-    let pattern = text("abcdefgh").repeat(LENGTH / 8);
-    race_long("eight units repeated, and another last unit", &pattern, &then(&pattern[..NEEDLE - 1], 0x7a), Some(ordinary));
+    race("three units repeated, and one of them missing", &three, &missing);
+    let eight = repeated("abcdefgh", LENGTH);
+    race("eight units repeated, and another last unit", &eight, &then(&eight[..NEEDLE - 1], 0x7a));
+    let mixed: Vec<u16> = words.iter().map(|unit| 0x61 + unit % 2).collect();
+    race("two units at random, and another last unit", &mixed, &then(&mixed[..NEEDLE - 1], 0x63));
+    let other = [&mixed[..NEEDLE / 2], &mixed[LENGTH / 2..LENGTH / 2 + NEEDLE / 2]].concat();
+    race("two units at random, and other units", &mixed, &other);
     let woven = fibonacci(LENGTH);
-    race_long("the Fibonacci word, and another last unit", &woven, &then(&woven[..NEEDLE - 1], 0x7a), Some(ordinary));
-    race_long("the Fibonacci word, and another first unit", &woven, &after(0x7a, &woven[..NEEDLE - 1]), Some(ordinary));
-    let turned: Vec<u16> = woven[..NEEDLE].iter().rev().copied().collect();
-    race_long("the Fibonacci word from its end", &woven, &after(0x61, &turned), Some(ordinary));
+    race("the Fibonacci word, and another last unit", &woven, &then(&woven[..NEEDLE - 1], 0x7a));
+    race("the Fibonacci word, and another first unit", &woven, &joined(&[], 0x7a, &woven[..NEEDLE - 1]));
+    race("the Fibonacci word, and another unit", &woven, &joined(&woven[..NEEDLE / 2], 0x62, &woven[..NEEDLE / 2 - 1]));
 }
 
 fn main() {
