@@ -1,6 +1,7 @@
 -- An occurrence has the two units of a probe.
 use Rattle.std.proofs.Common.{◌≡◌, ℕ, ◌+◌, ◌<◌, true, List, [], ◌∷◌, length, get_or, map, take, drop, refl, sym, ap, ◌∙◌, subst, arith, length-drop, length-take}
 use Rattle.std.proofs.Common.{get_or-drop, get_or-take}
+use Rattle.std.proofs.lemmas.List.{drop-map, take-map}
 use Rattle.wide_search.specs.Occurrences.{OccursAt}
 use Rattle.wide_search.specs.Probes.{are_units, BothMatchAt, IsProbe}
 use Rattle.wide_search.specs.declared.needle.Probe.{Probe}
@@ -50,3 +51,19 @@ module _ {X : Type 0} (number : X → ℕ) where
       ∙ ap (λ n. get_or us n probe.last) (swap probe.distance at) ∙ unit-in needle us at probe.distance probe.last occurs (omega (arith, long)) ∙ ends needle probe is in
       both-true (number probe.first) (number probe.last) (get_or (map number front) at 0) (get_or (map number back) at 0)
       (number-at number front at probe.first within ∙ ap number first) (number-at number back at probe.last within2 ∙ ap number last)
+
+  -- What is at an index of units from an offset on.
+  read-at : (us front : List X) (from i count j : ℕ) → j < count → front ≡ take count (drop (from + i) us) → get_or (map number front) j 0 ≡ get_or (map number us) (from + j + i) 0
+  read-at us front from i count j below is =
+      let index : from + i + j ≡ from + j + i = omega arith in
+      ap (λ xs. get_or (map number xs) j 0) is ∙ ap (λ xs. get_or xs j 0) (sym (take-map number count (drop (from + i) us)) ∙ ap (take count) (sym (drop-map number (from + i) us)))
+      ∙ get_or-take count (drop (from + i) (map number us)) j 0 below ∙ get_or-drop (from + i) (map number us) j 0 ∙ ap (λ n. get_or (map number us) n 0) index
+
+  -- Where units at two indices are those of a needle, both match in lists that begin at these indices.
+  pub both-read : (needle us front back : List X) (from one other count j : ℕ) (u v : X) → j < count → front ≡ take count (drop (from + one) us) → back ≡ take count (drop (from + other) us) → one < length needle → other < length needle
+      → u ≡ get_or needle one u → v ≡ get_or needle other v → get_or (map number us) (from + j + one) 0 ≡ get_or (map number needle) one 0 → get_or (map number us) (from + j + other) 0 ≡ get_or (map number needle) other 0
+      → BothMatchAt (number u) (number v) (map number front) (map number back) j
+  both-read needle us front back from one other count j u v below front-is back-is l l2 first last same same2 =
+      both-true (number u) (number v) (get_or (map number front) j 0) (get_or (map number back) j 0)
+      (read-at us front from one count j below front-is ∙ same ∙ number-at number needle one u l ∙ ap number (sym first))
+      (read-at us back from other count j below back-is ∙ same2 ∙ number-at number needle other v l2 ∙ ap number (sym last))

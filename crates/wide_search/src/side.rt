@@ -2,11 +2,12 @@
 //! once over any side: a search from the back is one from the front in the reversed units, for the reversed needle, and
 //! one without regard to the case of ASCII letters reads the number of each unit in lower case.
 
-ghost use Rattle.std.specs.Prelude.{◌≡◌, ◌<◌, length, map, true, false};
+ghost use Rattle.std.specs.Prelude.{◌≡◌, ◌+◌, ◌<◌, ◌≤◌, ℕ, length, map, true, false};
 ghost use Rattle.std.specs.Char.{to_ascii_lowercase};
 ghost use Rattle.std.specs.Str.TwoWay.{item_from};
-ghost use Rattle.wide_search.specs.NextOccurrences.{number_read};
+ghost use Rattle.wide_search.specs.NextOccurrences.{number_read, OccursFrom};
 
+use crate::pairs::first_pair;
 use wide_unit::{Unit, ascii_lowercase};
 
 // The side of a list from which its units are counted, and what is read of each.
@@ -23,6 +24,22 @@ pub(crate) trait Side: Copy {
     fn unit<C: Unit>(units: &[C], index: usize) -> u32
         requires { index < length units.now }
         ensures { result ≡ item_from BACK (length units.now) (map (number_read READ C.number) units.now) index };
+
+    // Returns how many of `count` offsets are passed over, at none of which the units at two indices of the needle
+    // match. It reads them in SIMD lanes, or where that is not written passes over none.
+    fn passed<C: Unit>(
+        units: &[C],
+        needle: &[C],
+        from: usize,
+        count: usize,
+        one: usize,
+        other: usize,
+    ) -> usize
+        requires fits { from + count + length needle.now ≤ length units.now + 1 }
+        requires one { one < length needle.now }
+        requires other { other < length needle.now }
+        ensures within { result ≤ count }
+        ensures before { (k : ℕ) → from ≤ k → k < from + result → ¬ (OccursFrom BACK (number_read READ C.number) needle.now units.now k) };
 }
 
 // Units are counted from the beginning.
@@ -46,6 +63,22 @@ impl Side for Front {
     fn unit<C: Unit>(units: &[C], index: usize) -> u32 {
         units[index].code()
     }
+
+    #[inline(always)]
+    fn passed<C: Unit>(
+        units: &[C],
+        needle: &[C],
+        from: usize,
+        count: usize,
+        one: usize,
+        other: usize,
+    ) -> usize {
+        let (_, rest) = units.split_at(from + one);
+        let (front, _) = rest.split_at(count);
+        let (_, rest) = units.split_at(from + other);
+        let (back, _) = rest.split_at(count);
+        first_pair(front, back, needle[one], needle[other])
+    }
 }
 
 impl Side for Back {
@@ -57,6 +90,18 @@ impl Side for Back {
     fn unit<C: Unit>(units: &[C], index: usize) -> u32 {
         units[units.len() - 1 - index].code()
     }
+
+    #[inline(always)]
+    fn passed<C: Unit>(
+        _units: &[C],
+        _needle: &[C],
+        _from: usize,
+        _count: usize,
+        _one: usize,
+        _other: usize,
+    ) -> usize {
+        0
+    }
 }
 
 impl Side for FrontInLowerCase {
@@ -67,5 +112,17 @@ impl Side for FrontInLowerCase {
     #[inline(always)]
     fn unit<C: Unit>(units: &[C], index: usize) -> u32 {
         ascii_lowercase(units[index].code())
+    }
+
+    #[inline(always)]
+    fn passed<C: Unit>(
+        _units: &[C],
+        _needle: &[C],
+        _from: usize,
+        _count: usize,
+        _one: usize,
+        _other: usize,
+    ) -> usize {
+        0
     }
 }

@@ -99,6 +99,12 @@ fn is_pair_nearby<C: Unit, S: Side>(units: &[C], needle: &[C], at: usize, steps:
     false
 }
 
+// The greatest number of units that a SIMD block has: so many more than those that decide may be compared.
+const LANES: usize = 16;
+
+// How many offsets are passed one by one before others are in SIMD lanes. Lanes take longer to begin.
+const TRIES_BEFORE_LANES: usize = 16;
+
 // Returns whether the units at two indices of the needle match those of the text if the needle is at `at`. It counts
 // each comparison: one if the first unit differs or the indices are the same, else two.
 #[inline(always)]
@@ -114,7 +120,6 @@ fn do_both_match<C: Unit, S: Side>(
     requires one { one < length needle.now }
     requires other { other < length needle.now }
     ensures steps { AddsAtMost steps.old steps.new 2 }
-    ensures alone { one ≡ other → AddsAtMost steps.old steps.new 1 }
     ensures differ { ¬ (IsTrue result) → ¬ (OccursFrom S.BACK (number_read S.READ C.number) needle.now units.now at) }
 {
     tick(steps, 1);
@@ -143,16 +148,24 @@ fn next_match<C: Unit, S: Side>(
     requires one { one < length needle.now }
     requires other { other < length needle.now }
     requires within { from ≤ length units.now }
-    ensures steps { AddsAtMost steps.old steps.new (2 * (result - from) + 2) }
-    ensures alone { one ≡ other → AddsAtMost steps.old steps.new (2 * (result - from) + 1) }
+    ensures steps { AddsAtMost steps.old steps.new (3 * (result - from) + 2) }
     ensures after { from ≤ result }
     ensures within { result ≤ length units.now }
     ensures before { (k : ℕ) → from ≤ k → k < result → ¬ (OccursFrom S.BACK (number_read S.READ C.number) needle.now units.now k) }
 {
     let last = units.len() - needle.len();
     let mut at = from;
+    let mut tries = TRIES_BEFORE_LANES;
     while at <= last && !do_both_match::<C, S>(units, needle, at, one, other, steps) {
         at += 1;
+        tries -= 1;
+        if tries == 0 {
+            let passed = S::passed(units, needle, at, last + 1 - at, one, other);
+            tick(steps, passed);
+            tick(steps, LANES);
+            at += passed;
+            tries = TRIES_BEFORE_LANES;
+        }
     }
     at
 }
@@ -176,7 +189,7 @@ fn next_occurrence<C: Unit, S: Side>(
 ) -> Stop
     requires some { 0 < length needle.now }
     requires within { from ≤ length units.now }
-    ensures steps { AddsAtMost steps.old steps.new (6 * (result.at - from) + 6 * length needle.now + 2) }
+    ensures steps { AddsAtMost steps.old steps.new (7 * (result.at - from) + 6 * length needle.now + 2) }
     ensures far { ¬ (IsTrue result.is_found) → result.at + length needle.now ≤ length units.now → from + 16 * length needle.now ≤ result.at }
     ensures stop { IsStop S.BACK (number_read S.READ C.number) needle.now units.now from result }
 {
@@ -230,7 +243,7 @@ pub(crate) fn find_two_way<C: Unit>(
     requires some { 0 < length needle.now }
     requires within { from ≤ length units.now }
     requires before { (k : ℕ) → k < from → ¬ (OccursAt needle.now units.now k) }
-    ensures steps { AddsAtMost steps.old steps.new (6 * (result.at - from) + 6 * length needle.now + 2) }
+    ensures steps { AddsAtMost steps.old steps.new (7 * (result.at - from) + 6 * length needle.now + 2) }
     ensures far { ¬ (IsTrue result.is_found) → result.at + length needle.now ≤ length units.now → from + 16 * length needle.now ≤ result.at }
     ensures after { from ≤ result.at }
     ensures within { result.at ≤ length units.now }
@@ -251,7 +264,7 @@ pub(crate) fn find_two_way_in_lower_case<C: Unit>(
     requires some { 0 < length needle.now }
     requires within { from ≤ length units.now }
     requires before { (k : ℕ) → k < from → ¬ (OccursAt (lowercased (map C.number needle.now)) (lowercased (map C.number units.now)) k) }
-    ensures steps { AddsAtMost steps.old steps.new (6 * (result.at - from) + 6 * length needle.now + 2) }
+    ensures steps { AddsAtMost steps.old steps.new (7 * (result.at - from) + 6 * length needle.now + 2) }
     ensures far { ¬ (IsTrue result.is_found) → result.at + length needle.now ≤ length units.now → from + 16 * length needle.now ≤ result.at }
     ensures after { from ≤ result.at }
     ensures within { result.at ≤ length units.now }
@@ -272,7 +285,7 @@ pub(crate) fn rfind_two_way<C: Unit>(
     requires some { 0 < length needle.now }
     requires within { end + length needle.now ≤ length units.now + 1 }
     requires beyond { (k : ℕ) → end ≤ k → ¬ (OccursAt needle.now units.now k) }
-    ensures steps { AddsAtMost steps.old steps.new (6 * (end - result.at) + 12 * length needle.now + 2) }
+    ensures steps { AddsAtMost steps.old steps.new (7 * (end - result.at) + 13 * length needle.now + 2) }
     ensures far { ¬ (IsTrue result.is_found) → 0 < result.at → result.at + 16 * length needle.now ≤ end }
     ensures within { result.at ≤ end }
     ensures here { IsTrue result.is_found → OccursAt needle.now units.now (result.at - 1) × (0 < result.at) }

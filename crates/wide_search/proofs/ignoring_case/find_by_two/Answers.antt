@@ -130,7 +130,7 @@ loop-at-preserved g c =
           let to = w.find_two_way_in_lower_case-stop.result.at in
           let last = counted w.find_two_way_in_lower_case-stop.new.steps in
           let grows : n < 144115188075855872 → base ≤ last = λ short. omega (arith, c.loop-at.invariant.grows short, c.tick.ensures, c.tick-in-loop-at.ensures, c.compared-matched.ensures.steps, w.find_two_way_in_lower_case-stop.ensures.steps.0) in
-          let spent : n < 144115188075855872 → last ≤ base + 60 * at + 6 * (to - at) + 142 * m + 2 = λ short.
+          let spent : n < 144115188075855872 → last ≤ base + 60 * at + 7 * (to - at) + 143 * m + 2 = λ short.
           paid-two_way base m c.loop-at.since c.loop-at.at c.skip-step.result c.compared-matched.result to c.loop-at.costs.wasted (counted c.loop-at.steps) (counted c.compared-matched.new.steps) last
           c.loop-at.invariant.after w.find_two_way_in_lower_case-stop.ensures.after less few (omega (arith, w.find_two_way_in_lower_case-stop.ensures.steps.1)) (c.loop-at.invariant.paid short c.loop-at-test.true) in (
             λ short. omega (arith, grows short, ap counted w.steps-is),

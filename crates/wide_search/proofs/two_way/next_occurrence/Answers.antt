@@ -33,12 +33,8 @@ loop-at-preserved-then-index-len g c =
     let on = c.next_match-at.result in
     let occurs = OccursFrom g.S.Side.BACK (number_read g.S.Side.READ g.C.Unit.number) c.args.needle.now c.args.units.now in
     let passed : (k : ℕ) → at ≤ k → k < next → ¬ (occurs k) = none-until x m parts c.factorize-parts.ensures.parts h (length c.args.units.now) at index (omega arith) c.if-index-len.true same differ in
-    let cost : counted c.next_match-at.new.steps + past ≤ counted c.if-at-stop.steps + (0 - parts.cut) + 2 * (on - at) =
-    elim (cases_lt parts.cut index) [
-      | inl above ↦ omega (arith, above, c.first_difference-index.ensures.steps, c.first_difference-index.ensures.after, c.max-start.ensures, c.next_match-at.ensures.steps.1, c.next_match-at.ensures.after)
-      | inr below ↦ (let same_index : parts.cut ≡ index = omega (arith, below, c.first_difference-index.ensures.after, c.max-start.ensures) in
-          omega (arith, same_index, c.first_difference-index.ensures.steps, c.first_difference-index.ensures.after, c.max-start.ensures, (c.next_match-at.ensures.alone same_index).1, c.next_match-at.ensures.after))
-    ] in
+    let cost : counted c.next_match-at.new.steps + past ≤ counted c.if-at-stop.steps + (0 - parts.cut) + 3 * (on - at) =
+    omega (arith, c.first_difference-index.ensures.steps, c.first_difference-index.ensures.after, c.max-start.ensures, c.next_match-at.ensures.steps.1, c.next_match-at.ensures.after) in
     record {
       within = c.next_match-at.ensures.within;
       after = omega (arith, c.next_match-at.ensures.after);
