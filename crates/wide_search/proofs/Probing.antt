@@ -1,5 +1,5 @@
 -- An occurrence has the two units of a probe.
-use Rattle.std.proofs.Common.{◌≡◌, ℕ, ◌+◌, ◌<◌, true, List, [], ◌∷◌, length, get_or, map, take, drop, refl, sym, ap, ◌∙◌, subst, arith, length-drop, length-take}
+use Rattle.std.proofs.Common.{◌≡◌, ℕ, ◌+◌, ◌-◌, ◌<◌, ◌≤◌, true, List, [], ◌∷◌, length, get_or, map, take, drop, refl, sym, ap, ◌∙◌, subst, arith, length-drop, length-take}
 use Rattle.std.proofs.Common.{get_or-drop, get_or-take}
 use Rattle.std.proofs.lemmas.List.{drop-map, take-map}
 use Rattle.wide_search.specs.Occurrences.{OccursAt}
@@ -67,3 +67,16 @@ module _ {X : Type 0} (number : X → ℕ) where
       both-true (number u) (number v) (get_or (map number front) j 0) (get_or (map number back) j 0)
       (read-at us front from one count j below front-is ∙ same ∙ number-at number needle one u l ∙ ap number (sym first))
       (read-at us back from other count j below back-is ∙ same2 ∙ number-at number needle other v l2 ∙ ap number (sym last))
+
+  -- Where units from an index on begin as those of a needle do, each of them is the needle's.
+  pub same-read : (needle us rest here : List X) (at from count same k : ℕ) → from ≤ k → k < from + same → same ≤ count → rest ≡ take count (drop from needle) → here ≡ take count (drop (at + from) us) → take same rest ≡ take same here
+      → get_or (map number us) (at + k) 0 ≡ get_or (map number needle) k 0
+  same-read needle us rest here at from count same k le l within rest-is here-is alike =
+      let j = k - from in
+      let below : j < same = omega (arith, le, l) in
+      let in_units : at + j + from ≡ at + k = omega (arith, le) in
+      let in_needle : 0 + j + from ≡ k = omega (arith, le) in
+      let zero_more : 0 + from ≡ from = omega arith in
+      ap (λ n. get_or (map number us) n 0) (sym in_units) ∙ sym (read-at us here at from count j (omega (arith, below, within)) here-is)
+      ∙ sym (get_or-take same (map number here) j 0 below) ∙ ap (λ xs. get_or xs j 0) (take-map number same here ∙ ap (map number) (sym alike) ∙ sym (take-map number same rest))
+      ∙ get_or-take same (map number rest) j 0 below ∙ read-at needle rest 0 from count j (omega (arith, below, within)) (rest-is ∙ ap (λ n. take count (drop n needle)) (sym zero_more)) ∙ ap (λ n. get_or (map number needle) n 0) in_needle

@@ -45,8 +45,8 @@ paid-each base m since at to matched wasted wasted2 spent after le forward short
 
 -- What a try and then a two-way search take: few for the offsets from `since` to `to`, but for some for each unit of the
 -- needle.
-pub paid-two_way : (base m since at step matched to wasted spent after last : ℕ) → since ≤ at → at + (step + 1) ≤ to → matched < m → after ≤ spent + step + 40 + matched → last ≤ after + (7 * (to - (at + (step + 1))) + 13 * m + 2) → IsPaid base m since at wasted spent
-    → last ≤ base + 60 * (at + (step + 1)) + 7 * (to - (at + (step + 1))) + 143 * m + 2
+pub paid-two_way : (base m since at step matched to wasted spent after last : ℕ) → since ≤ at → at + (step + 1) ≤ to → matched < m → after ≤ spent + step + 40 + matched → last ≤ after + (8 * (to - (at + (step + 1))) + 15 * m + 2) → IsPaid base m since at wasted spent
+    → last ≤ base + 60 * (at + (step + 1)) + 8 * (to - (at + (step + 1))) + 145 * m + 2
 paid-two_way base m since at step matched to wasted spent after last le forward less more more2 i = omega (arith, i.most, le, forward, less, more, more2)
 
 -- The same of other numbers.

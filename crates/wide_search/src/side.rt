@@ -5,10 +5,10 @@
 ghost use Rattle.std.specs.Prelude.{◌≡◌, ◌+◌, ◌<◌, ◌≤◌, ℕ, length, map, true, false};
 ghost use Rattle.std.specs.Char.{to_ascii_lowercase};
 ghost use Rattle.std.specs.Str.TwoWay.{item_from};
-ghost use Rattle.wide_search.specs.NextOccurrences.{number_read, OccursFrom};
+ghost use Rattle.wide_search.specs.NextOccurrences.{number_from, number_read, OccursFrom};
 
 use crate::pairs::first_pair;
-use wide_unit::{Unit, ascii_lowercase};
+use wide_unit::{Unit, ascii_lowercase, common_prefix};
 
 // The side of a list from which its units are counted, and what is read of each.
 pub(crate) trait Side: Copy {
@@ -24,6 +24,15 @@ pub(crate) trait Side: Copy {
     fn unit<C: Unit>(units: &[C], index: usize) -> u32
         requires { index < length units.now }
         ensures { result ≡ item_from BACK (length units.now) (map (number_read READ C.number) units.now) index };
+
+    // Returns how many units of the needle from an index on, but before `end`, are those of the text if the needle is at
+    // `at`. It compares them in SIMD lanes, or where that is not written returns 0.
+    fn same_from<C: Unit>(units: &[C], needle: &[C], at: usize, from: usize, end: usize) -> usize
+        requires fits { at + length needle.now ≤ length units.now }
+        requires within { end ≤ length needle.now }
+        requires ordered { from ≤ end }
+        ensures within { from + result ≤ end }
+        ensures same { (k : ℕ) → from ≤ k → k < from + result → number_from BACK (number_read READ C.number) units.now (at + k) ≡ number_from BACK (number_read READ C.number) needle.now k };
 
     // Returns how many of `count` offsets are passed over, at none of which the units at two indices of the needle
     // match. It reads them in SIMD lanes, or where that is not written passes over none.
@@ -64,6 +73,14 @@ impl Side for Front {
         units[index].code()
     }
 
+    fn same_from<C: Unit>(units: &[C], needle: &[C], at: usize, from: usize, end: usize) -> usize {
+        let (_, here) = units.split_at(at + from);
+        let (here, _) = here.split_at(end - from);
+        let (_, rest) = needle.split_at(from);
+        let (rest, _) = rest.split_at(end - from);
+        common_prefix(rest, here)
+    }
+
     #[inline(always)]
     fn passed<C: Unit>(
         units: &[C],
@@ -92,6 +109,17 @@ impl Side for Back {
     }
 
     #[inline(always)]
+    fn same_from<C: Unit>(
+        _units: &[C],
+        _needle: &[C],
+        _at: usize,
+        _from: usize,
+        _end: usize,
+    ) -> usize {
+        0
+    }
+
+    #[inline(always)]
     fn passed<C: Unit>(
         _units: &[C],
         _needle: &[C],
@@ -112,6 +140,17 @@ impl Side for FrontInLowerCase {
     #[inline(always)]
     fn unit<C: Unit>(units: &[C], index: usize) -> u32 {
         ascii_lowercase(units[index].code())
+    }
+
+    #[inline(always)]
+    fn same_from<C: Unit>(
+        _units: &[C],
+        _needle: &[C],
+        _at: usize,
+        _from: usize,
+        _end: usize,
+    ) -> usize {
+        0
     }
 
     #[inline(always)]

@@ -14,9 +14,18 @@ use crate::side::{Back, Front, FrontInLowerCase, Side};
 use wide_steps::{Steps, tick};
 use wide_unit::Unit;
 
+// The greatest number of units that a SIMD block has: so many more than those that decide may be compared.
+const LANES: usize = 16;
+
+// How many offsets are passed one by one before others are in SIMD lanes. Lanes take longer to begin.
+const TRIES_BEFORE_LANES: usize = 16;
+
+// How many units are compared one by one before others are in SIMD lanes. Most comparisons end before that.
+const COMPARED_BEFORE_LANES: usize = 32;
+
 // Returns the first index of the needle, from `from` to before `end`, whose unit differs from that of the text if the
 // needle is at `at`. Returns `end` if there is none. Indices and offsets are counted from the side `S`. It counts a
-// step for each unit that is equal, and one more.
+// step for each comparison of two units.
 #[inline(always)]
 fn first_difference<C: Unit, S: Side>(
     units: &[C],
@@ -29,16 +38,25 @@ fn first_difference<C: Unit, S: Side>(
     requires fits { at + length needle.now ≤ length units.now }
     requires within { end ≤ length needle.now }
     requires ordered { from ≤ end }
-    ensures steps { counted steps.new + from ≡ counted steps.old + result + 1 }
+    ensures steps { AddsAtMost steps.old steps.new (2 * (result - from) + 1) }
     ensures after { from ≤ result }
     ensures within { result ≤ end }
     ensures same { (k : ℕ) → from ≤ k → k < result → number_from S.BACK (number_read S.READ C.number) units.now (at + k) ≡ number_from S.BACK (number_read S.READ C.number) needle.now k }
     ensures differ { result < end → number_from S.BACK (number_read S.READ C.number) units.now (at + result) ≢ number_from S.BACK (number_read S.READ C.number) needle.now result }
 {
     let mut index = from;
+    let mut left = COMPARED_BEFORE_LANES;
     while index < end && S::unit(units, at + index) == S::unit(needle, index) {
         tick(steps, 1);
         index += 1;
+        left -= 1;
+        if left == 0 {
+            let same = S::same_from(units, needle, at, index, end);
+            tick(steps, same);
+            tick(steps, LANES);
+            index += same;
+            left = COMPARED_BEFORE_LANES;
+        }
     }
     tick(steps, 1);
     index
@@ -98,12 +116,6 @@ fn is_pair_nearby<C: Unit, S: Side>(units: &[C], needle: &[C], at: usize, steps:
     }
     false
 }
-
-// The greatest number of units that a SIMD block has: so many more than those that decide may be compared.
-const LANES: usize = 16;
-
-// How many offsets are passed one by one before others are in SIMD lanes. Lanes take longer to begin.
-const TRIES_BEFORE_LANES: usize = 16;
 
 // Returns whether the units at two indices of the needle match those of the text if the needle is at `at`. It counts
 // each comparison: one if the first unit differs or the indices are the same, else two.
@@ -189,7 +201,7 @@ fn next_occurrence<C: Unit, S: Side>(
 ) -> Stop
     requires some { 0 < length needle.now }
     requires within { from ≤ length units.now }
-    ensures steps { AddsAtMost steps.old steps.new (7 * (result.at - from) + 6 * length needle.now + 2) }
+    ensures steps { AddsAtMost steps.old steps.new (8 * (result.at - from) + 7 * length needle.now + 2) }
     ensures far { ¬ (IsTrue result.is_found) → result.at + length needle.now ≤ length units.now → from + 16 * length needle.now ≤ result.at }
     ensures stop { IsStop S.BACK (number_read S.READ C.number) needle.now units.now from result }
 {
@@ -243,7 +255,7 @@ pub(crate) fn find_two_way<C: Unit>(
     requires some { 0 < length needle.now }
     requires within { from ≤ length units.now }
     requires before { (k : ℕ) → k < from → ¬ (OccursAt needle.now units.now k) }
-    ensures steps { AddsAtMost steps.old steps.new (7 * (result.at - from) + 6 * length needle.now + 2) }
+    ensures steps { AddsAtMost steps.old steps.new (8 * (result.at - from) + 7 * length needle.now + 2) }
     ensures far { ¬ (IsTrue result.is_found) → result.at + length needle.now ≤ length units.now → from + 16 * length needle.now ≤ result.at }
     ensures after { from ≤ result.at }
     ensures within { result.at ≤ length units.now }
@@ -264,7 +276,7 @@ pub(crate) fn find_two_way_in_lower_case<C: Unit>(
     requires some { 0 < length needle.now }
     requires within { from ≤ length units.now }
     requires before { (k : ℕ) → k < from → ¬ (OccursAt (lowercased (map C.number needle.now)) (lowercased (map C.number units.now)) k) }
-    ensures steps { AddsAtMost steps.old steps.new (7 * (result.at - from) + 6 * length needle.now + 2) }
+    ensures steps { AddsAtMost steps.old steps.new (8 * (result.at - from) + 7 * length needle.now + 2) }
     ensures far { ¬ (IsTrue result.is_found) → result.at + length needle.now ≤ length units.now → from + 16 * length needle.now ≤ result.at }
     ensures after { from ≤ result.at }
     ensures within { result.at ≤ length units.now }
@@ -285,7 +297,7 @@ pub(crate) fn rfind_two_way<C: Unit>(
     requires some { 0 < length needle.now }
     requires within { end + length needle.now ≤ length units.now + 1 }
     requires beyond { (k : ℕ) → end ≤ k → ¬ (OccursAt needle.now units.now k) }
-    ensures steps { AddsAtMost steps.old steps.new (7 * (end - result.at) + 13 * length needle.now + 2) }
+    ensures steps { AddsAtMost steps.old steps.new (8 * (end - result.at) + 15 * length needle.now + 2) }
     ensures far { ¬ (IsTrue result.is_found) → 0 < result.at → result.at + 16 * length needle.now ≤ end }
     ensures within { result.at ≤ end }
     ensures here { IsTrue result.is_found → OccursAt needle.now units.now (result.at - 1) × (0 < result.at) }

@@ -112,7 +112,7 @@ loop-at-preserved g c =
     let turned = c.match-turn in
     let reached : (n < 144115188075855872 → base ≤ counted turned.steps)
     × (n < 144115188075855872 → turned.stop.at < n - (m - 1) → IsPaid base m turned.since turned.stop.at turned.costs.wasted (counted turned.steps))
-    × (n < 144115188075855872 → counted turned.steps ≤ base + 60 * turned.stop.at + 144 * m + 2) =
+    × (n < 144115188075855872 → counted turned.steps ≤ base + 60 * turned.stop.at + 146 * m + 2) =
     elim turned.branch [
       | in-Each w ↦ (let other : is_two_way c.turn.result ≡ false = ap is_two_way w.in-Each.is in
           let unfound : ¬ (IsTrue w.find_each-matched.result.0.is_found) = λ found. cc (found, ap (λ (s : Stop). s.is_found) w.stop-is, c.if-stop.false) in
@@ -130,7 +130,7 @@ loop-at-preserved g c =
           let to = w.find_two_way_in_lower_case-stop.result.at in
           let last = counted w.find_two_way_in_lower_case-stop.new.steps in
           let grows : n < 144115188075855872 → base ≤ last = λ short. omega (arith, c.loop-at.invariant.grows short, c.tick.ensures, c.tick-in-loop-at.ensures, c.compared-matched.ensures.steps, w.find_two_way_in_lower_case-stop.ensures.steps.0) in
-          let spent : n < 144115188075855872 → last ≤ base + 60 * at + 7 * (to - at) + 143 * m + 2 = λ short.
+          let spent : n < 144115188075855872 → last ≤ base + 60 * at + 8 * (to - at) + 145 * m + 2 = λ short.
           paid-two_way base m c.loop-at.since c.loop-at.at c.skip-step.result c.compared-matched.result to c.loop-at.costs.wasted (counted c.loop-at.steps) (counted c.compared-matched.new.steps) last
           c.loop-at.invariant.after w.find_two_way_in_lower_case-stop.ensures.after less few (omega (arith, w.find_two_way_in_lower_case-stop.ensures.steps.1)) (c.loop-at.invariant.paid short c.loop-at-test.true) in (
             λ short. omega (arith, grows short, ap counted w.steps-is),

@@ -13,7 +13,7 @@ invariant-loop-at g l = record {
   before : (earlier : ℕ) → earlier < l.at → ¬ (OccursAt (lowercased (map g.C.Unit.number l.needle)) (lowercased (map g.C.Unit.number l.units)) earlier);
   grows : length l.units < 144115188075855872 → counted l.fn.steps ≤ counted l.steps;
   paid : length l.units < 144115188075855872 → l.at < l.end → IsPaid (counted l.fn.steps) (length l.needle) l.since l.at l.costs.wasted (counted l.steps);
-  most : length l.units < 144115188075855872 → counted l.steps ≤ counted l.fn.steps + 60 * l.at + 144 * length l.needle + 2;
+  most : length l.units < 144115188075855872 → counted l.steps ≤ counted l.fn.steps + 60 * l.at + 146 * length l.needle + 2;
 }
 
 abbrev pub decreases-loop-at : goal.decreases-loop-at

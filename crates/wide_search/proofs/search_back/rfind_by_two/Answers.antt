@@ -20,7 +20,7 @@ loop-at-preserved-in-Some-as_slice g c =
     let few : counted c.matched-matched.new.steps ≤ counted c.loop-at.steps + (c.loop-at.at - c.skip_back-found.result) + 40 + c.matched-matched.result = omega (arith, c.tick.ensures, c.tick-in-loop-at.ensures, c.matched-matched.ensures.steps) in
     let more : counted c.loop-at.steps ≤ last = omega (arith, c.tick.ensures, c.tick-in-loop-at.ensures, c.matched-matched.ensures.steps, c.rfind_two_way-stop.ensures.steps.0) in
     let less : c.matched-matched.result < m = omega (arith, c.if-matched-probe.false, long) in
-    let spent : length c.args.units.now < 144115188075855872 → last ≤ base + 60 * (c.args.end - at) + 7 * (at - to) + 143 * m + 2 =
+    let spent : length c.args.units.now < 144115188075855872 → last ≤ base + 60 * (c.args.end - at) + 8 * (at - to) + 145 * m + 2 =
     λ short. elim (cases_lt 2 m) [
       | inl wide ↦ omega (
         arith,

@@ -14,7 +14,7 @@ invariant-loop-at g l = record {
   grows : length l.units < 144115188075855872 → counted l.fn.steps ≤ counted l.steps;
   few : length (g.P.Needle.sought l.needle) ≤ 2 → 0 < l.at → counted l.steps + 60 * l.at ≤ counted l.fn.steps + 60 * l.end;
   paid : length l.units < 144115188075855872 → 2 < length (g.P.Needle.sought l.needle) → 0 < l.at → IsPaid (counted l.fn.steps) (length (g.P.Needle.sought l.needle)) (l.end - l.since) (l.end - l.at) l.costs.wasted (counted l.steps);
-  most : length l.units < 144115188075855872 → counted l.steps ≤ counted l.fn.steps + 60 * (l.end - l.at) + 144 * length (g.P.Needle.sought l.needle) + 2;
+  most : length l.units < 144115188075855872 → counted l.steps ≤ counted l.fn.steps + 60 * (l.end - l.at) + 146 * length (g.P.Needle.sought l.needle) + 2;
 }
 
 abbrev pub decreases-loop-at : goal.decreases-loop-at

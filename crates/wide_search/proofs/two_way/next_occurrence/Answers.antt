@@ -19,7 +19,7 @@ loop-at-preserved-then-index-len g c =
     let same = known-from (λ k. h (at + k) ≡ x k) c.loop-at.known parts.cut c.max-start.result index (omega arith) c.loop-at.invariant.same c.first_difference-index.ensures.same in
     let differ = c.first_difference-index.ensures.differ c.if-index-len.true in
     let base = counted c.args.steps.now in
-    let past = c.loop-at.known - parts.cut in
+    let past = 2 * (c.loop-at.known - parts.cut) in
     let looked : IsSpent base m c.args.from at past c.if-at-stop.stop (counted c.if-at-stop.steps) =
     elim c.if-at-stop.branch [
       | then-at-stop+else-not-is_pair_nearby w ↦
@@ -33,16 +33,16 @@ loop-at-preserved-then-index-len g c =
     let on = c.next_match-at.result in
     let occurs = OccursFrom g.S.Side.BACK (number_read g.S.Side.READ g.C.Unit.number) c.args.needle.now c.args.units.now in
     let passed : (k : ℕ) → at ≤ k → k < next → ¬ (occurs k) = none-until x m parts c.factorize-parts.ensures.parts h (length c.args.units.now) at index (omega arith) c.if-index-len.true same differ in
-    let cost : counted c.next_match-at.new.steps + past ≤ counted c.if-at-stop.steps + (0 - parts.cut) + 3 * (on - at) =
-    omega (arith, c.first_difference-index.ensures.steps, c.first_difference-index.ensures.after, c.max-start.ensures, c.next_match-at.ensures.steps.1, c.next_match-at.ensures.after) in
+    let cost : counted c.next_match-at.new.steps + past ≤ counted c.if-at-stop.steps + 2 * (0 - parts.cut) + 4 * (on - at) =
+    omega (arith, c.first_difference-index.ensures.steps.0, c.first_difference-index.ensures.steps.1, c.first_difference-index.ensures.after, c.max-start.ensures, c.next_match-at.ensures.steps.1, c.next_match-at.ensures.after) in
     record {
       within = c.next_match-at.ensures.within;
       after = omega (arith, c.next_match-at.ensures.after);
       few = omega arith;
       before = nowhere-further occurs c.args.from next on (nowhere-further occurs c.args.from at next c.loop-at.invariant.before passed) c.next_match-at.ensures.before;
       same = λ k l. absurd (omega (arith, l));
-      spent = spent-comparing base m c.args.from at past c.if-at-stop.stop (counted c.if-at-stop.steps) on (0 - parts.cut) (counted c.next_match-at.new.steps) c.loop-at.invariant.after (omega (arith, c.next_match-at.ensures.after))
-          (omega (arith, c.first_difference-index.ensures.steps, c.first_difference-index.ensures.after, c.next_match-at.ensures.steps.0)) cost looked;
+      spent = spent-comparing base m c.args.from at past c.if-at-stop.stop (counted c.if-at-stop.steps) on (2 * (0 - parts.cut)) (counted c.next_match-at.new.steps) c.loop-at.invariant.after (omega (arith, c.next_match-at.ensures.after))
+          (omega (arith, c.first_difference-index.ensures.steps.0, c.first_difference-index.ensures.steps.1, c.first_difference-index.ensures.after, c.next_match-at.ensures.steps.0)) cost looked;
     }
 
 pub returns-then-first-parts-clause-stop : goal.returns-then-first-parts-clause-stop
@@ -79,7 +79,7 @@ loop-at-preserved-then-parts g c =
     let below : c.first_difference-first.result < parts.cut = omega arith in
     let differ = c.first_difference-first.ensures.differ below in
     let base = counted c.args.steps.now in
-    let past = c.loop-at.known - parts.cut in
+    let past = 2 * (c.loop-at.known - parts.cut) in
     let looked : IsSpent base m c.args.from at past c.if-at-stop.stop (counted c.if-at-stop.steps) =
     elim c.if-at-stop.branch [
       | then-at-stop+else-not-is_pair_nearby w ↦
@@ -100,9 +100,9 @@ loop-at-preserved-then-parts g c =
       before = nowhere-further (OccursFrom g.S.Side.BACK (number_read g.S.Side.READ g.C.Unit.number) c.args.needle.now c.args.units.now) c.args.from at (at + parts.period) c.loop-at.invariant.before
           (none-within_period x m parts c.factorize-parts.ensures.parts h n at all c.first_difference-first.result below differ);
       same = known-after x m parts c.factorize-parts.ensures.parts h n at (c.factorize-parts.ensures.parts.repeats.0 c.if-parts.true) all;
-      spent = spent-comparing base m c.args.from at past c.if-at-stop.stop (counted c.if-at-stop.steps) (at + parts.period) (m - parts.period - parts.cut) (counted c.first_difference-first.new.steps) c.loop-at.invariant.after (omega arith)
-          (omega (arith, c.first_difference-index.ensures.steps, c.first_difference-index.ensures.after, c.first_difference-first.ensures.steps, c.first_difference-first.ensures.after))
-          (omega (arith, c.first_difference-index.ensures.steps, c.first_difference-index.ensures.after, c.first_difference-index.ensures.within, c.first_difference-first.ensures.steps, c.first_difference-first.ensures.after, c.max-start.ensures, below, longer, c.factorize-parts.ensures.parts.fits)) looked;
+      spent = spent-comparing base m c.args.from at past c.if-at-stop.stop (counted c.if-at-stop.steps) (at + parts.period) (2 * (m - parts.period - parts.cut)) (counted c.first_difference-first.new.steps) c.loop-at.invariant.after (omega arith)
+          (omega (arith, c.first_difference-index.ensures.steps.0, c.first_difference-index.ensures.steps.1, c.first_difference-index.ensures.after, c.first_difference-first.ensures.steps.0, c.first_difference-first.ensures.steps.1, c.first_difference-first.ensures.after))
+          (omega (arith, c.first_difference-index.ensures.steps.0, c.first_difference-index.ensures.steps.1, c.first_difference-index.ensures.after, c.first_difference-index.ensures.within, c.first_difference-first.ensures.steps.0, c.first_difference-first.ensures.steps.1, c.first_difference-first.ensures.after, c.max-start.ensures, below, longer, c.factorize-parts.ensures.parts.fits)) looked;
     }
 
 pub loop-at-preserved : goal.loop-at-preserved
@@ -119,7 +119,7 @@ loop-at-preserved g c =
     let differ = c.first_difference-first.ensures.differ below in
     let once : ¬ (IsRepeat x m parts.cut parts.period) = λ repeat. let e = c.factorize-parts.ensures.parts.repeats.1 repeat in cc (e, c.if-parts.false) in
     let base = counted c.args.steps.now in
-    let past = c.loop-at.known - parts.cut in
+    let past = 2 * (c.loop-at.known - parts.cut) in
     let looked : IsSpent base m c.args.from at past c.if-at-stop.stop (counted c.if-at-stop.steps) =
     elim c.if-at-stop.branch [
       | then-at-stop+else-not-is_pair_nearby w ↦
@@ -139,9 +139,9 @@ loop-at-preserved g c =
             | inr near ↦ none-within_cut x m parts c.factorize-parts.ensures.parts h n at all c.first_difference-first.result below differ once k le near occurs
           ]);
       same = λ k l. absurd (omega (arith, l));
-      spent = spent-comparing base m c.args.from at past c.if-at-stop.stop (counted c.if-at-stop.steps) (at + (c.max.result + 1)) (0 - parts.cut) (counted c.first_difference-first.new.steps) c.loop-at.invariant.after (omega arith)
-          (omega (arith, c.first_difference-index.ensures.steps, c.first_difference-index.ensures.after, c.first_difference-first.ensures.steps, c.first_difference-first.ensures.after))
-          (omega (arith, c.first_difference-index.ensures.steps, c.first_difference-index.ensures.after, c.first_difference-index.ensures.within, c.first_difference-first.ensures.steps, c.first_difference-first.ensures.after, c.max-start.ensures, c.max.ensures, below, c.factorize-parts.ensures.parts.below)) looked;
+      spent = spent-comparing base m c.args.from at past c.if-at-stop.stop (counted c.if-at-stop.steps) (at + (c.max.result + 1)) (2 * (0 - parts.cut)) (counted c.first_difference-first.new.steps) c.loop-at.invariant.after (omega arith)
+          (omega (arith, c.first_difference-index.ensures.steps.0, c.first_difference-index.ensures.steps.1, c.first_difference-index.ensures.after, c.first_difference-first.ensures.steps.0, c.first_difference-first.ensures.steps.1, c.first_difference-first.ensures.after))
+          (omega (arith, c.first_difference-index.ensures.steps.0, c.first_difference-index.ensures.steps.1, c.first_difference-index.ensures.after, c.first_difference-index.ensures.within, c.first_difference-first.ensures.steps.0, c.first_difference-first.ensures.steps.1, c.first_difference-first.ensures.after, c.max-start.ensures, c.max.ensures, below, c.factorize-parts.ensures.parts.below)) looked;
     }
 
 pub loop-at-init : goal.loop-at-init
@@ -161,7 +161,7 @@ returns-then-first-parts-clause-steps g c =
     let at = c.loop-at.at in
     let parts = c.factorize-parts.result in
     let base = counted c.args.steps.now in
-    let past = c.loop-at.known - parts.cut in
+    let past = 2 * (c.loop-at.known - parts.cut) in
     let looked : IsSpent base m c.args.from at past c.if-at-stop.stop (counted c.if-at-stop.steps) =
     elim c.if-at-stop.branch [
       | then-at-stop+else-not-is_pair_nearby w ↦
@@ -171,6 +171,6 @@ returns-then-first-parts-clause-steps g c =
       | else-at-stop w ↦
           subst (λ next. IsSpent base m c.args.from at past next (counted c.if-at-stop.steps)) (sym w.stop-is) (subst (λ t. IsSpent base m c.args.from at past c.loop-at.stop (counted t)) (sym w.steps-is) c.loop-at.invariant.spent)
     ] in (
-      omega (arith, looked.grows, c.first_difference-index.ensures.steps, c.first_difference-index.ensures.after, c.first_difference-first.ensures.steps, c.first_difference-first.ensures.after),
-      omega (arith, looked.steps, c.first_difference-index.ensures.steps, c.first_difference-index.ensures.after, c.first_difference-index.ensures.within, c.first_difference-first.ensures.steps, c.first_difference-first.ensures.after, c.first_difference-first.ensures.within, c.max-start.ensures),
+      omega (arith, looked.grows, c.first_difference-index.ensures.steps.0, c.first_difference-index.ensures.steps.1, c.first_difference-index.ensures.after, c.first_difference-first.ensures.steps.0, c.first_difference-first.ensures.steps.1, c.first_difference-first.ensures.after),
+      omega (arith, looked.steps, c.first_difference-index.ensures.steps.0, c.first_difference-index.ensures.steps.1, c.first_difference-index.ensures.after, c.first_difference-index.ensures.within, c.first_difference-first.ensures.steps.0, c.first_difference-first.ensures.steps.1, c.first_difference-first.ensures.after, c.first_difference-first.ensures.within, c.max-start.ensures),
     )

@@ -1,4 +1,4 @@
-use Rattle.std.proofs.Common.{◌≡◌, ◌-◌, ◌+◌, ◌<◌, ◌≤◌, ℕ, length}
+use Rattle.std.proofs.Common.{◌≡◌, ◌-◌, ◌+◌, ◌*◌, ◌<◌, ◌≤◌, ℕ, length}
 use Rattle.wide_search.specs.NextOccurrences.{number_from, number_read, OccursFrom}
 use Rattle.wide_steps.specs.Counted.{counted}
 use Rattle.wide_search.proofs.Spent.{IsSpent}
@@ -12,7 +12,7 @@ invariant-loop-at g l = record {
   few : l.known ≤ length l.needle;
   before : (k : ℕ) → l.from ≤ k → k < l.at → ¬ (OccursFrom g.S.Side.BACK (number_read g.S.Side.READ g.C.Unit.number) l.needle l.units k);
   same : (k : ℕ) → k < l.known → number_from g.S.Side.BACK (number_read g.S.Side.READ g.C.Unit.number) l.units (l.at + k) ≡ number_from g.S.Side.BACK (number_read g.S.Side.READ g.C.Unit.number) l.needle k;
-  spent : IsSpent (counted l.fn.steps) (length l.needle) l.from l.at (l.known - l.parts.cut) l.stop (counted l.steps);
+  spent : IsSpent (counted l.fn.steps) (length l.needle) l.from l.at (2 * (l.known - l.parts.cut)) l.stop (counted l.steps);
 }
 
 abbrev pub decreases-loop-at : goal.decreases-loop-at
