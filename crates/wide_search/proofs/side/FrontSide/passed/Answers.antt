@@ -1,4 +1,4 @@
-use Rattle.std.proofs.Common.{◌≡◌, ℕ, ◌+◌, ◌-◌, false, arith, ap, subst, take, drop, ◌∙◌}
+use Rattle.std.proofs.Common.{◌≡◌, ℕ, ◌+◌, ◌-◌, false, arith, ap, subst, take, ◌∙◌}
 use Rattle.wide_search.specs.NextOccurrences.{number_read, OccursFrom}
 use Rattle.wide_search.proofs.Probing.{both-read}
 use Rattle.wide_search.proofs.side.FrontSide.passed.Goals as goal
