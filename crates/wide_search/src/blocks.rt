@@ -1,5 +1,5 @@
-//! Compares the first units of a needle with those at an offset in SIMD lanes, all in one step, so that no branch depends
-//! on which of them differ: where each unit often matches by chance, a processor cannot predict such a branch.
+//! Compares the first units of a needle with those at an offset in SIMD lanes, all in one step, so that no branch
+//! depends on which of them differ: where each unit often matches by chance, a processor cannot predict such a branch.
 
 ghost use Rattle.std.specs.Prelude.{◌≡◌, ◌<◌, ◌≤◌, ℕ, length, IsTrue};
 ghost use Rattle.std.proofs.Common.{rules};

@@ -1,7 +1,7 @@
 //! The two-way search (M. Crochemore and D. Perrin, "Two-way string-matching"), from either side: linear in the lengths
-//! of the units and the needle, in constant memory. It begins unit by unit, and goes on in SIMD lanes where many units are
-//! the same or many offsets are passed over, so it is used only where the needle and the text repeat themselves. What it
-//! compares is the number that the side reads, which may be in lower case.
+//! of the units and the needle, in constant memory. It begins unit by unit, and goes on in SIMD lanes where many units
+//! are the same or many offsets are passed over, so it is used only where the needle and the text repeat themselves.
+//! What it compares is the number that the side reads, which may be in lower case.
 
 ghost use Rattle.std.specs.Prelude.{◌≡◌, ◌≢◌, ◌+◌, ◌-◌, ◌*◌, ◌<◌, ◌≤◌, ℕ, IsTrue, length, map};
 ghost use Rattle.wide_search.specs.Lowercased.{lowercased};
