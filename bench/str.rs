@@ -185,10 +185,15 @@ fn replaced(question: &Question) -> Answer {
     let (letter, rest) = cut(question.asked, ' ');
     let (needle, rest) = cut(rest, ':');
     let (by, how) = cut(rest, ':');
-    let (text, by) = (question.text()?, question.width.text(&list(by))?);
+    // A C string is its units without the NUL at the end.
+    let own = |units: &[u32]| match letter {
+        "z" => question.width.text(units.strip_suffix(&[0]).expect("a NUL")),
+        _ => question.width.text(units),
+    };
+    let (text, by) = (own(question.list)?, own(&list(by))?);
     let needle = match letter {
         "c" => Separator::Of(set("c", needle)?),
-        _ => Separator::Text(question.width.text(&list(needle))?),
+        _ => Separator::Text(own(&list(needle))?),
     };
     if matches!(&needle, Separator::Text(text) if text.is_empty()) {
         return Err(EmptyNeedle);
