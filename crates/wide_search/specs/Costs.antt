@@ -1,5 +1,5 @@
--- Which method follows a try that failed.
-use Rattle.std.specs.Prelude.{Bool, true, false}
+-- Which method follows a try that failed, and what tries cost.
+use Rattle.std.specs.Prelude.{◌+◌, ◌-◌, ◌*◌, ℕ, Bool, true, false, List, length}
 use Rattle.wide_search.specs.declared.costs.Turn.{Turn}
 use Rattle.wide_search.specs.declared.costs.Turn.TheVariants.{Pairs, Each, TwoWay, Plain}
 
@@ -16,3 +16,7 @@ is_plain Pairs = false
 is_plain Each = false
 is_plain TwoWay = false
 is_plain Plain = true
+
+-- How many units are compared if the whole needle is compared at each offset from `at` on at which it fits.
+abbrev pub whole_tries : {A : Type 0} → List A → List A → ℕ → ℕ
+whole_tries needle units at = length needle * (length units + 1 - length needle - at)

@@ -135,3 +135,11 @@ pub(crate) const OFFSETS_BEFORE_LOOK: usize = 16;
 // Offsets. The two-way search ends if none of the next this many is a pair: the text may no longer repeat itself as the
 // needle does, and other searches take less time.
 pub(crate) const OFFSETS_LOOKED_AHEAD: usize = 32;
+
+// ---- within the two-way search
+
+// Offsets that are passed one by one before others are in SIMD lanes. Lanes take longer to begin.
+pub(crate) const TRIES_BEFORE_LANES: usize = 16;
+
+// Units that are compared one by one before others are in SIMD lanes. Most comparisons end before that.
+pub(crate) const COMPARED_BEFORE_LANES: usize = 32;

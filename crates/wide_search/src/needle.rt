@@ -110,7 +110,7 @@ pub(crate) fn begins_after_first<C: Unit, P: Needle<C>>(
 
 // The greatest number of units that a call of `Needle::matched_in_blocks` compares beside those that match: eight that
 // it compares one by one before, and a block.
-const COMPARED_BESIDE: usize = 24;
+pub(crate) const COMPARED_BESIDE: usize = 24;
 
 // Returns how many units at the beginning are those of the needle, up to the first that differs. It counts a step for
 // each unit that is compared.

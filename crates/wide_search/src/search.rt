@@ -3,6 +3,7 @@
 //! (W. Mula, "SIMD-friendly algorithms for substring searching").
 
 ghost use Rattle.std.specs.Prelude.{◌≡◌, ◌+◌, ◌-◌, ◌*◌, ◌^◌, ◌∷◌, ◌<◌, ◌≤◌, ℕ, List, IfNone, IfSome, IsTrue, length};
+ghost use Rattle.wide_search.specs.Costs.{whole_tries};
 ghost use Rattle.wide_search.specs.Occurrences.{IsFirstAt, OccursAt, OccursNowhere};
 ghost use Rattle.wide_search.specs.Probes.{IsProbe};
 ghost use Rattle.wide_steps.specs.Counted.{counted, AddsAtMost};
@@ -269,7 +270,7 @@ fn find_by_first<C: Unit, P: Needle<C>>(
     ensures narrow { length (P.sought needle) ≤ 512 → AddsAtMost steps.old steps.new (529 * (result.at - from) + 528) }
     ensures narrow_unfound { ¬ (IsTrue result.is_found) → length (P.sought needle) ≤ 512 → AddsAtMost steps.old steps.new (529 * (result.at - from)) }
     ensures wide { most ≤ 48 → AddsAtMost steps.old steps.new (17 * (result.at - from) + 49 * length (P.sought needle) + 16) }
-    ensures left { ¬ (IsTrue result.is_found) → counted steps.new + length (P.sought needle) * (length units.now + 1 - length (P.sought needle) - result.at) ≤ counted steps.old + 17 * (result.at - from) + length (P.sought needle) * (length units.now + 1 - length (P.sought needle) - from) }
+    ensures left { ¬ (IsTrue result.is_found) → counted steps.new + whole_tries (P.sought needle) units.now result.at ≤ counted steps.old + 17 * (result.at - from) + whole_tries (P.sought needle) units.now from }
     ensures tried { ¬ (IsTrue result.is_found) → result.at < length units.now → from + most ≤ result.at }
     ensures after { from ≤ result.at }
     ensures within { result.at ≤ length units.now }

@@ -10,19 +10,16 @@ ghost use Rattle.wide_search.specs.Occurrences.{OccursAt};
 ghost use Rattle.wide_steps.specs.Counted.{counted, AddsAtMost};
 
 use crate::factorization::factorize;
-use crate::limits::{OFFSETS_BEFORE_LOOK, OFFSETS_LOOKED_AHEAD};
+use crate::limits::{
+    COMPARED_BEFORE_LANES, OFFSETS_BEFORE_LOOK, OFFSETS_LOOKED_AHEAD, TRIES_BEFORE_LANES,
+};
+use crate::needle::COMPARED_BESIDE;
 use crate::side::{Back, Front, FrontInLowerCase, Side};
 use wide_steps::{Steps, tick};
 use wide_unit::Unit;
 
 // The greatest number of units that a SIMD block has: so many more than those that decide may be compared.
 const LANES: usize = 16;
-
-// How many offsets are passed one by one before others are in SIMD lanes. Lanes take longer to begin.
-const TRIES_BEFORE_LANES: usize = 16;
-
-// How many units are compared one by one before others are in SIMD lanes. Most comparisons end before that.
-const COMPARED_BEFORE_LANES: usize = 32;
 
 // Returns the first index of the needle, from `from` to before `end`, whose unit differs from that of the text if the
 // needle is at `at`. Returns `end` if there is none. Indices and offsets are counted from the side `S`. It counts a
@@ -54,7 +51,7 @@ fn first_difference<C: Unit, S: Side>(
         if left == 0 {
             let same = S::same_from(units, needle, at, index, end);
             tick(steps, same);
-            tick(steps, LANES);
+            tick(steps, COMPARED_BESIDE);
             index += same;
             left = COMPARED_BEFORE_LANES;
         }

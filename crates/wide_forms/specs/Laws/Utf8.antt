@@ -56,11 +56,9 @@ at_three a b c d rest from to e = grind (arith, nat_tests)
 at_four : (a b c d e : ℕ) (rest : List ℕ) → 0xF0 ≤ a → ((a % 2 ^ 3 * 2 ^ 6 + b % 2 ^ 6) * 2 ^ 6 + c % 2 ^ 6) * 2 ^ 6 + d % 2 ^ 6 ≡ e → code_point_at (a ∷ b ∷ c ∷ d ∷ rest) ≡ Some (e, rest)
 at_four a b c d e rest from h = grind (arith, nat_tests)
 
--- At the beginning of a text `code_point_at` reads the first character, and leaves the bytes of the others.
-pub code_point_at-text : (c : ℕ) (cs : List ℕ) → IsScalar c → code_point_at (utf8 (c ∷ cs)) ≡ Some (c, utf8 cs)
-code_point_at-text c cs scalar =
-    let bound = (ranges c scalar).below in
-    let rest = utf8 cs in
+-- At the bytes of a code point (the Standard's D10) `code_point_at` reads it, and leaves what follows.
+pub code_point_at-bytes : (c : ℕ) (rest : List ℕ) → c < 0x11_0000 → code_point_at (utf8_bytes c ++ rest) ≡ Some (c, rest)
+code_point_at-bytes c rest bound =
     elim (cases_lt c 0x80) [
       | inl below ↦ rw (one_byte c below) (at_one c rest below)
       | inr from_80 ↦ elim (cases_lt c 0x800) [
@@ -71,3 +69,7 @@ code_point_at-text c cs scalar =
         ]
       ]
     ]
+
+-- At the beginning of a text `code_point_at` reads the first character, and leaves the bytes of the others.
+pub code_point_at-text : (c : ℕ) (cs : List ℕ) → IsScalar c → code_point_at (utf8 (c ∷ cs)) ≡ Some (c, utf8 cs)
+code_point_at-text c cs scalar = code_point_at-bytes c (utf8 cs) (ranges c scalar).below

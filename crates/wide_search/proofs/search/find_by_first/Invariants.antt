@@ -1,4 +1,5 @@
 use Rattle.std.proofs.Common.{length, ℕ, ◌+◌, ◌-◌, ◌*◌, ◌<◌, ◌≤◌}
+use Rattle.wide_search.specs.Costs.{whole_tries}
 use Rattle.wide_search.specs.Occurrences.{OccursAt}
 use Rattle.wide_steps.specs.Counted.{counted}
 use Rattle.wide_search.proofs.search.find_by_first.Given as goal
@@ -15,7 +16,7 @@ invariant-loop-at g l = record {
   grows : counted l.fn.steps ≤ counted l.steps;
   narrow : length (g.P.Needle.sought l.needle) ≤ 512 → counted l.steps ≤ counted l.fn.steps + 529 * (l.at - l.from);
   wide : l.most ≤ 48 → counted l.steps + length (g.P.Needle.sought l.needle) * (48 - (l.most - l.tries)) ≤ counted l.fn.steps + 17 * (l.at - l.from) + length (g.P.Needle.sought l.needle) * 48;
-  left : counted l.steps + length (g.P.Needle.sought l.needle) * (length l.units + 1 - length (g.P.Needle.sought l.needle) - l.at) ≤ counted l.fn.steps + 17 * (l.at - l.from) + length (g.P.Needle.sought l.needle) * (length l.units + 1 - length (g.P.Needle.sought l.needle) - l.from);
+  left : counted l.steps + whole_tries (g.P.Needle.sought l.needle) l.units l.at ≤ counted l.fn.steps + 17 * (l.at - l.from) + whole_tries (g.P.Needle.sought l.needle) l.units l.from;
 }
 
 abbrev pub decreases-loop-at : goal.decreases-loop-at
