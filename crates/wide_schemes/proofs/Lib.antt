@@ -1,0 +1,4 @@
+pub mod Encoding
+pub mod TextPrefixes
+pub mod Puts
+pub mod Utf8Chunks

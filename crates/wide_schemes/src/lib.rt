@@ -1,0 +1,15 @@
+//! What bytes mean in the encoding schemes of Unicode, and in WTF-8, which holds units of 16 bits that may be ill-formed
+//! (Unicode Standard, sections 3.9 and 3.10, D92 to D101): a chunk of bytes as units, and units as bytes. Vectorized, by
+//! the conversions between forms.
+#![tactic(auto)]
+
+mod encode;
+mod layout;
+mod progress;
+mod text;
+mod utf8;
+
+pub use encode::put_wtf8;
+pub use layout::Layout;
+pub use progress::{DecodeStop, Decoding};
+pub use utf8::decode_utf8;
