@@ -2,3 +2,4 @@ pub mod Encoding
 pub mod TextPrefixes
 pub mod Puts
 pub mod Utf8Chunks
+pub mod Utf16Chunks
