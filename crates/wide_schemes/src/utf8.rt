@@ -4,6 +4,7 @@ ghost use Rattle.std.specs.Prelude.{◌≡◌, ℕ, ◌-◌, ◌<◌, ◌≤◌,
 ghost use Rattle.wide_forms.specs.EncodingForm.{Utf16};
 ghost use Rattle.wide_forms.specs.Items.{IsWellFormed};
 ghost use Rattle.wide_conversions.specs.ChunkEnds.{EndsAs};
+ghost use Rattle.wide_schemes.specs.Decoded.{EndsText};
 ghost use Rattle.wide_schemes.specs.Layouts.{Decodes, StopsBefore};
 ghost use Rattle.wide_schemes.specs.declared.layout.Layout.TheVariants.{Utf8};
 ghost use Rattle.wide_schemes.specs.declared.progress.DecodeStop.TheVariants.{Fault};
@@ -24,10 +25,10 @@ fn fault_at(bytes: &[u8], at: usize, len: usize) -> DecodeStop
     }
 }
 
-// Returns what follows the longest prefix of a chunk that is UTF-8.
-fn stop_after(bytes: &[u8], chunk: Utf8Chunk, is_last: bool) -> DecodeStop
+/// Returns what follows the longest prefix of a chunk that is UTF-8.
+pub(crate) fn stop_after(bytes: &[u8], chunk: Utf8Chunk, is_last: bool) -> DecodeStop
     requires { EndsAs bytes.now chunk.valid chunk.end }
-    ensures { (room : ℕ) → StopsBefore Utf8 false false (drop chunk.valid bytes.now) is_last room result }
+    ensures { EndsText (drop chunk.valid bytes.now) is_last result }
 {
     match chunk.end {
         Utf8End::Complete => DecodeStop::AtEnd,

@@ -2,7 +2,7 @@ use Rattle.std.proofs.Common.{◌≡◌, ◌-◌, length, length-take, drop, sub
 use Rattle.wide_schemes.specs.Layouts.{StopsBefore}
 use Rattle.wide_schemes.specs.declared.layout.Layout.TheVariants.{Utf8}
 use Rattle.wide_schemes.proofs.TextPrefixes.{text-part}
-use Rattle.wide_schemes.proofs.Utf8Chunks.{part-decodes, part-well_formed}
+use Rattle.wide_schemes.proofs.Utf8Chunks.{part-decodes, part-well_formed, text-stops}
 use Rattle.wide_schemes.proofs.utf8.decode_utf8.Goals as goal
 
 pub returns-then-step-chunk-clause-items : goal.returns-then-step-chunk-clause-items
@@ -20,5 +20,6 @@ returns-else-step-chunk-clause-well_formed c = (let bs = c.args.bytes.now in let
 pub returns-else-step-chunk-clause-stop : goal.returns-else-step-chunk-clause-stop
 returns-else-step-chunk-clause-stop c =
     let bs = c.args.bytes.now in
+    let room = length c.decode_text-step.new.units - c.decode_text-step.result.written in
     let same : c.first_utf8_chunk-chunk.result.valid ≡ c.decode_text-step.result.read = omega (arith, c.if-step-chunk.false, c.decode_text-step.ensures.read, length-take c.first_utf8_chunk-chunk.result.valid bs) in
-    subst (λ n. StopsBefore Utf8 _ _ (drop n bs) c.args.is_last (length c.decode_text-step.new.units - c.decode_text-step.result.written) c.stop_after-stop.result) same (c.stop_after-stop.ensures (length c.decode_text-step.new.units - c.decode_text-step.result.written))
+    subst (λ n. StopsBefore Utf8 _ _ (drop n bs) c.args.is_last room c.stop_after-stop.result) same (text-stops (drop c.first_utf8_chunk-chunk.result.valid bs) c.args.is_last room c.stop_after-stop.result c.stop_after-stop.ensures)
