@@ -3,3 +3,5 @@ pub mod TextPrefixes
 pub mod Puts
 pub mod Utf8Chunks
 pub mod Utf16Chunks
+pub mod Halves
+pub mod PointRuns

@@ -1,7 +1,7 @@
 -- What is written at an index of a list.
 use Rattle.std.proofs.Common.{◌≡◌, ℕ, ◌+◌, ◌-◌, ◌≤◌, List, ◌++◌, length, length-append, length-drop, length-take, length-take-le, take, drop, sym, ap, ◌∙◌, arith}
 use Rattle.std.proofs.Math.Seq.{take-append-add}
-use Rattle.std.proofs.lemmas.List.{take-append-le}
+use Rattle.std.proofs.lemmas.List.{take-append-le, take_all}
 use borrow.Rule.Slice.PartMut.{post_of, put_mid}
 
 -- What is written at an index comes after what is before it.
@@ -15,3 +15,7 @@ pub put-length : (xs ys : List ℕ) (at k : ℕ) → at + k ≡ length xs → le
 put-length xs ys at k within long =
     let beyond : length (post_of at k xs) ≡ length (drop at xs) - k = length-drop k (drop at xs) in
     omega (arith, length-append (take at xs) (ys ++ post_of at k xs), length-append ys (post_of at k xs), length-take at xs, length-drop at xs, beyond, long)
+
+-- What a slice from an index on is.
+pub rest-slice : (bs : List ℕ) (n : ℕ) → take (length bs - n) (drop n bs) ≡ drop n bs
+rest-slice bs n = take_all (length bs - n) (drop n bs) (omega (arith, length-drop n bs))

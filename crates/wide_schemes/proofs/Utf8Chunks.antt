@@ -1,5 +1,5 @@
 -- A chunk of UTF-8: its characters, and the fault or the beginning of a character after them.
-use Rattle.std.proofs.Common.{◌≡◌, ℕ, ◌+◌, ◌-◌, ◌<◌, ◌≤◌, List, [], ◌∷◌, ◌++◌, Bool, false, add-zero, length, length-append, length-drop, drop, map, refl, sym, ap, ◌∙◌, arith, subst}
+use Rattle.std.proofs.Common.{◌≡◌, ℕ, ◌+◌, ◌<◌, ◌≤◌, List, [], ◌∷◌, ◌++◌, Bool, false, add-zero, length, length-append, length-drop, drop, map, refl, sym, ap, ◌∙◌, arith, subst}
 use Rattle.std.specs.Prelude.{slice_index}
 use Rattle.std.specs.Str.{StartsWithNoChar}
 use Rattle.std.proofs.lemmas.List.{drop-append-le, get_or-drop, get_or_append_left}
@@ -53,9 +53,9 @@ ill_formed-begins rest last unit len ill = record {
   some = ill.some;
   within = ill.within;
   first = λ more may.
-    let item = begins-part (rest ++ more) len (omega (arith, ill.some, ill.within, length-append rest more)) (ill.no_char more may) (ill.part more may) in
-    let first : slice_index (rest ++ more) 0 ≡ unit = get_or_append_left rest more 0 0 (omega (arith, ill.some, ill.within)) ∙ sym ill.first in
-    item ∙ ap (λ u. Fault u ∷ utf8_items (drop len (rest ++ more))) first ∙ ap (λ xs. Fault unit ∷ utf8_items xs) (drop-append-le len rest more ill.within);
+      let item = begins-part (rest ++ more) len (omega (arith, ill.some, ill.within, length-append rest more)) (ill.no_char more may) (ill.part more may) in
+      let first : slice_index (rest ++ more) 0 ≡ unit = get_or_append_left rest more 0 0 (omega (arith, ill.some, ill.within)) ∙ sym ill.first in
+      item ∙ ap (λ u. Fault u ∷ utf8_items (drop len (rest ++ more))) first ∙ ap (λ xs. Fault unit ∷ utf8_items xs) (drop-append-le len rest more ill.within);
 }
 
 -- The beginning of a character has at most three bytes.

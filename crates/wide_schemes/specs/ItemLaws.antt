@@ -1,5 +1,5 @@
 -- Code points and faults of bytes, by the bytes of code points at their beginning, and of units.
-use Rattle.std.proofs.Common.{◌≡◌, ℕ, ◌<◌, inl, inr, List, [], ◌∷◌, ◌++◌, Bool, true, false, true≢false, refl, sym, ap, ◌∙◌, subst, arith, append_assoc}
+use Rattle.std.proofs.Common.{◌≡◌, ℕ, ◌<◌, inl, inr, List, [], ◌∷◌, ◌++◌, Bool, true, false, true≢false, Some, length, drop, refl, sym, ap, ◌∙◌, subst, arith, append_assoc}
 use Rattle.std.specs.Prelude.{map, slice_index, if◌then◌else◌}
 use Rattle.std.specs.Char.{IsScalar}
 use Rattle.std.specs.List.{All}
@@ -21,7 +21,12 @@ use Rattle.wide_forms.specs.Segmentation.{Item, Char, Fault, IsItem, item_units,
 use Rattle.wide_forms.specs.Utf8.{utf8, utf8_bytes}
 use Rattle.wide_unit.specs.CodePoints.{code_of, code_points}
 use Rattle.wide_schemes.specs.Wtf8Laws.{code_points-bound}
-use Rattle.wide_schemes.specs.Wtf8Items.{AreWtf8Items, IsCodePoint, none, point, part, ends_in_high, point_item, wtf8_items, wtf8_items-unique, wtf8_items-divide}
+use Rattle.wide_schemes.specs.Wtf8Items.{AreWtf8Items, IsCodePoint, none, point, part, ends_in_high, point_item, wtf8_items, wtf8_items-unique, wtf8_items-divide, StartsWithNoPoint, number_read, bytes_left}
+use Rattle.wide_schemes.specs.Layouts.{scalar_item}
+use Rattle.wide_forms.specs.CodePoint.{code_point_at}
+use Rattle.std.specs.Str.Lossy.{utf8_invalid_len}
+use Rattle.wide_conversions.specs.Laws.Utf8Items.{shorter-char}
+use Rattle.wide_forms.specs.Laws.Utf8.{code_point_at-bytes}
 
 -- A scalar value is no half of a pair.
 pub low-scalar : (c : ℕ) → IsScalar c → is_low c ≡ false
@@ -238,3 +243,56 @@ chain-points h (c ∷ cs) all apart =
 pub code_points-encode : (h : Bool) (cs : List ℕ) → All IsCodePoint cs → point_items h cs ≡ map Char cs → code_points Utf16 (encode Utf16 cs) ≡ cs
 code_points-encode h cs all apart =
     ap (λ us. code_points Utf16 us) (sym (units-items cs all)) ∙ ap (map code_of) (items-of_chain Utf16 (map item_of cs) (chain-points h cs all apart)) ∙ codes-of cs
+
+-- Outside of WTF-8 a half is a fault after whatever precedes it.
+scalar-point : (h k : Bool) (c : ℕ) → scalar_item (point_item h c) ≡ scalar_item (point_item k c)
+scalar-point h k c = scalar-any h c ∙ sym (scalar-any k c)
+  where
+    scalar-any : (t : Bool) (n : ℕ) → scalar_item (point_item t n) ≡ scalar_item (Char n)
+    scalar-any false n = refl
+    scalar-any true n = elim (cases_Bool (is_low n)) [
+      | inl low ↦ (let half : is_surrogate n ≡ true = grind (arith, nat_tests) in rw (low, half))
+      | inr other ↦ rw other
+    ]
+
+scalar-same : (h k : Bool) (bs ds : List ℕ) (is js : List Item) → bs ≡ ds → AreWtf8Items h bs is → AreWtf8Items k ds js → map scalar_item is ≡ map scalar_item js
+scalar-same h k bs ds is js e (none _) (none _) = refl
+scalar-same h k bs ds is js e (none _) (point _ d rest js' bound more) = absurd (omega (arith, ap length e, shorter-char d rest))
+scalar-same h k bs ds is js e (none _) (part _ ds' js' some unread more) = absurd (omega (arith, ap length e, some))
+scalar-same h k bs ds is js e (point _ c rest is' bound more) (none _) = absurd (omega (arith, ap length e, shorter-char c rest))
+scalar-same h k bs ds is js e (part _ bs' is' some unread more) (none _) = absurd (omega (arith, ap length e, some))
+scalar-same h k bs ds is js e (point _ c rest is' bound more) (point _ d rest' js' bound' more') =
+    let read : Some (c, rest) ≡ Some (d, rest') = sym (code_point_at-bytes c rest bound) ∙ ap code_point_at e ∙ code_point_at-bytes d rest' bound' in
+    let same : c ≡ d = ap number_read read in
+    let beyond = scalar-same (ends_in_high h (point_item h c ∷ [])) (ends_in_high k (point_item k d ∷ [])) rest rest' is' js' (ap bytes_left read) more more' in
+    ap (λ i. i ∷ map scalar_item is') (scalar-point h k c ∙ ap (λ n. scalar_item (point_item k n)) same) ∙ ap (λ xs. scalar_item (point_item k d) ∷ xs) beyond
+scalar-same h k bs ds is js e (point _ c rest is' bound more) (part _ ds' js' some unread more') = absurd (unread c rest bound (sym e))
+scalar-same h k bs ds is js e (part _ bs' is' some unread more) (point _ d rest js' bound more') = absurd (unread d rest bound e)
+scalar-same h k bs ds is js e (part _ bs' is' some unread more) (part _ ds' js' some' unread' more') =
+    let beyond = scalar-same h k (drop (utf8_invalid_len bs') bs') (drop (utf8_invalid_len ds') ds') is' js' (ap (λ xs. drop (utf8_invalid_len xs) xs) e) more more' in
+    ap (λ xs. Fault (slice_index xs 0) ∷ map scalar_item is') e ∙ ap (λ xs. Fault (slice_index ds' 0) ∷ xs) beyond
+
+pub scalar_items-any : (h k : Bool) (bs : List ℕ) → map scalar_item (wtf8_items h bs) ≡ map scalar_item (wtf8_items k bs)
+scalar_items-any h k bs = scalar-same h k bs bs (wtf8_items h bs) (wtf8_items k bs) refl (wtf8_items-divide h bs) (wtf8_items-divide k bs)
+
+-- Bytes that begin with those of no code point begin with a fault.
+pub items-part : (h : Bool) (bs : List ℕ) → 0 < length bs → StartsWithNoPoint bs → wtf8_items h bs ≡ Fault (slice_index bs 0) ∷ wtf8_items h (drop (utf8_invalid_len bs) bs)
+items-part h bs some unread = wtf8_items-unique h bs (Fault (slice_index bs 0) ∷ wtf8_items h (drop (utf8_invalid_len bs) bs)) (part h bs (wtf8_items h (drop (utf8_invalid_len bs) bs)) some unread (wtf8_items-divide h (drop (utf8_invalid_len bs) bs)))
+
+pub points-append : (h : Bool) (cs ds : List ℕ) → point_items h (cs ++ ds) ≡ point_items h cs ++ point_items (ends_in_high h (point_items h cs)) ds
+points-append h [] ds = refl
+points-append h (c ∷ cs) ds =
+    let k = ends_in_high h (point_item h c ∷ []) in
+    ap (λ is. point_item h c ∷ is) (points-append k cs ds) ∙ ap (λ t. point_item h c ∷ (point_items k cs ++ point_items t ds)) (sym (ends-cons h (point_item h c) (point_items k cs)))
+
+pub ends-scalars : (cs : List ℕ) → All IsScalar cs → ends_in_high false (map Char cs) ≡ false
+ends-scalars [] all = refl
+ends-scalars (c ∷ cs) all = ap (λ t. ends_in_high t (map Char cs)) (high-scalar c (All-head IsScalar c cs all)) ∙ ends-scalars cs (All-tail IsScalar c cs all)
+
+pub scalar-chars : (cs : List ℕ) → All IsScalar cs → map scalar_item (map Char cs) ≡ map Char cs
+scalar-chars [] all = refl
+scalar-chars (c ∷ cs) all =
+    let r = (ranges c (All-head IsScalar c cs all)).no_surrogate in
+    let other : is_surrogate c ≡ false = grind (arith, nat_tests) in
+    let here : scalar_item (Char c) ≡ Char c = rw other in
+    ap (λ i. i ∷ map scalar_item (map Char cs)) here ∙ ap (λ is. Char c ∷ is) (scalar-chars cs (All-tail IsScalar c cs all))

@@ -9,9 +9,11 @@ mod progress;
 mod text;
 mod utf16;
 mod utf8;
+mod wtf8;
 
 pub use encode::put_wtf8;
 pub use layout::Layout;
 pub use progress::{DecodeStop, Decoding};
 pub use utf8::decode_utf8;
 pub use utf16::decode_utf16;
+pub use wtf8::decode_wtf8;

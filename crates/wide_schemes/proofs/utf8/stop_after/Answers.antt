@@ -1,4 +1,4 @@
-use Rattle.std.proofs.Common.{◌≡◌, ℕ, List, [], ◌++◌, Bool, false, length-drop, drop, sym, subst, arith}
+use Rattle.std.proofs.Common.{ℕ, List, ◌++◌, length-drop, drop, sym, subst, arith}
 use Rattle.std.proofs.lemmas.List.{append-nil}
 use Rattle.wide_conversions.specs.ChunkEnds.{EndsAs, HasFaultAt}
 use Rattle.wide_conversions.specs.declared.utf8_validation.Utf8End.TheVariants.{IllFormed, Incomplete}
