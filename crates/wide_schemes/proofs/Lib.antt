@@ -5,3 +5,4 @@ pub mod Utf8Chunks
 pub mod Utf16Chunks
 pub mod Halves
 pub mod PointRuns
+pub mod ReadBytes

@@ -4,7 +4,8 @@ ghost use Rattle.std.specs.Prelude.{◌≡◌, ◌+◌, ◌-◌, ◌*◌, ◌<�
 ghost use Rattle.wide_forms.specs.EncodingForm.{IsHighSurrogate, Utf16 as Utf16Form};
 ghost use Rattle.wide_forms.specs.Items.{IsFirstFault, IsWellFormed};
 ghost use Rattle.wide_forms.specs.Laws.Items.{IsCut};
-ghost use Rattle.wide_schemes.specs.Layouts.{Decodes, StopsBefore};
+ghost use Rattle.wide_unit.specs.CodePoints.{code_points};
+ghost use Rattle.wide_schemes.specs.Layouts.{Decodes, StopsBefore, encoded};
 ghost use Rattle.wide_schemes.specs.declared.layout.Layout.TheVariants.{Utf16};
 ghost use Rattle.wide_schemes.specs.declared.progress.DecodeStop.TheVariants.{AtEnd, Incomplete, NoSpace};
 
@@ -77,6 +78,7 @@ pub fn decode_utf16(
 ) -> Decoding
     ensures read { result.read ≤ length bytes.now }
     ensures written { result.written ≤ length units.new }
+    ensures bytes { take result.read bytes.now ≡ encoded (Utf16 order) (code_points Utf16Form (take result.written units.new)) }
     ensures items { Decodes (Utf16 order) keeps false bytes.now is_last result.read (take result.written units.new) false }
     ensures well_formed { keeps ≡ false → IsWellFormed Utf16Form (take result.written units.new) }
     ensures stop { StopsBefore (Utf16 order) keeps false (drop result.read bytes.now) is_last (length units.new - result.written) result.stop }

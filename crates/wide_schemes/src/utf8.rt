@@ -5,7 +5,8 @@ ghost use Rattle.wide_forms.specs.EncodingForm.{Utf16};
 ghost use Rattle.wide_forms.specs.Items.{IsWellFormed};
 ghost use Rattle.wide_conversions.specs.ChunkEnds.{EndsAs};
 ghost use Rattle.wide_schemes.specs.Decoded.{EndsText};
-ghost use Rattle.wide_schemes.specs.Layouts.{Decodes, StopsBefore};
+ghost use Rattle.wide_unit.specs.CodePoints.{code_points};
+ghost use Rattle.wide_schemes.specs.Layouts.{Decodes, StopsBefore, encoded};
 ghost use Rattle.wide_schemes.specs.declared.layout.Layout.TheVariants.{Utf8};
 ghost use Rattle.wide_schemes.specs.declared.progress.DecodeStop.TheVariants.{Fault};
 
@@ -49,6 +50,7 @@ pub(crate) fn stop_after(bytes: &[u8], chunk: Utf8Chunk, is_last: bool) -> Decod
 pub fn decode_utf8(bytes: &[u8], is_last: bool, units: &mut [u16]) -> Decoding
     ensures read { result.read ≤ length bytes.now }
     ensures written { result.written ≤ length units.new }
+    ensures bytes { take result.read bytes.now ≡ encoded Utf8 (code_points Utf16 (take result.written units.new)) }
     ensures items { Decodes Utf8 false false bytes.now is_last result.read (take result.written units.new) false }
     ensures well_formed { IsWellFormed Utf16 (take result.written units.new) }
     ensures stop { StopsBefore Utf8 false false (drop result.read bytes.now) is_last (length units.new - result.written) result.stop }

@@ -6,7 +6,8 @@ ghost use Rattle.wide_forms.specs.EncodingForm.{Utf16};
 ghost use Rattle.wide_forms.specs.Items.{IsWellFormed};
 ghost use Rattle.wide_forms.specs.Searches.{is_low};
 ghost use Rattle.wide_forms.specs.Segmentation.{Char};
-ghost use Rattle.wide_schemes.specs.Layouts.{Decodes, StopsBefore};
+ghost use Rattle.wide_unit.specs.CodePoints.{code_points};
+ghost use Rattle.wide_schemes.specs.Layouts.{Decodes, StopsBefore, encoded};
 ghost use Rattle.wide_schemes.specs.PointRuns.{IsAfterText, IsHalfAt, IsPointRun};
 ghost use Rattle.wide_schemes.specs.Wtf8Items.{point_item};
 ghost use Rattle.wide_schemes.specs.declared.layout.Layout.TheVariants.{Wtf8};
@@ -186,6 +187,7 @@ pub fn decode_wtf8(
     requires { keeps ≡ false → after_high ≡ false }
     ensures read { result.read ≤ length bytes.now }
     ensures written { result.written ≤ length units.new }
+    ensures bytes { take result.read bytes.now ≡ encoded Wtf8 (code_points Utf16 (take result.written units.new)) }
     ensures items { Decodes Wtf8 keeps after_high bytes.now is_last result.read (take result.written units.new) result.after_high }
     ensures state { keeps ≡ false → result.after_high ≡ false }
     ensures well_formed { keeps ≡ false → IsWellFormed Utf16 (take result.written units.new) }

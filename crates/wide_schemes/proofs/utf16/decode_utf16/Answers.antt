@@ -1,4 +1,4 @@
-use Rattle.std.proofs.Common.{◌≡◌, ℕ, suc, ◌+◌, ◌-◌, ◌*◌, ◌/◌, ◌<◌, ◌≤◌, List, [], ◌++◌, Bool, true, false, length, length-drop, length-take, length-take-le, Option, Some, None, take, drop, sym, ◌∙◌, subst, arith, inl, inr}
+use Rattle.std.proofs.Common.{◌≡◌, ℕ, suc, ◌+◌, ◌-◌, ◌*◌, ◌/◌, ◌<◌, ◌≤◌, List, [], ◌++◌, Bool, true, false, length, length-drop, length-take, length-take-le, Option, Some, None, take, drop, sym, ◌∙◌, subst, arith, inl, inr, ap}
 use Rattle.std.specs.Prelude.{IfNone, IfSome, IsTrue, min, slice_index}
 use Rattle.std.proofs.lemmas.Bool.{cases_Bool, cases_lt}
 use Rattle.std.proofs.lemmas.List.{nil_from_length, take-take}
@@ -12,6 +12,7 @@ use Rattle.wide_schemes.specs.declared.layout.Layout.TheVariants.{Utf16}
 use Rattle.wide_schemes.specs.declared.progress.DecodeStop.TheVariants.{AtEnd, Incomplete, NoSpace}
 use Rattle.wide_schemes.specs.declared.progress.DecodeStop.{DecodeStop}
 use Rattle.wide_schemes.proofs.Utf16Chunks.{certain-decodes, fault-begins16, fault-decodes, fault-well, half-incomplete, high-incomplete, none-next, stored-units}
+use Rattle.wide_schemes.proofs.ReadBytes.{units-bytes}
 use Rattle.wide_schemes.proofs.utf16.decode_utf16.Goals as goal
 
 -- What is known once the units are stored, of as many of them as are certain.
@@ -147,3 +148,27 @@ returns-in-None-clause-stop c =
     let few : certain.result ≤ c.min-count.result = omega (arith, certain.ensures.within, length-take c.min-count.result c.fill_units.new.units) in
     stops c.args.order c.args.keeps c.args.is_last c.args.bytes.now c.fill_units.new.units c.min-count.result certain.result c.do_more_follow.result c.stop_before.result (omega (arith, c.min-count.ensures, c.fill_units.auto.units)) few c.fill_units.ensures c.do_more_follow.ensures.some certain.ensures.more certain.ensures.last certain.ensures.high
     c.stop_before.ensures.no_space c.stop_before.ensures.incomplete c.stop_before.ensures.at_end
+
+-- The units of a prefix of the bytes.
+prefix-units : (order : BoM) (bytes units : List ℕ) (n c : ℕ) → 2 * n ≤ length bytes → take (length (take (2 * n) bytes) / 2) units ≡ units_in order (take (2 * n) bytes) → c ≤ n → take c units ≡ take c (units_in order bytes)
+prefix-units order bytes units n c count stored few =
+    sym (take-take c n units few) ∙ ap (take c) (stored-units order bytes units n count stored) ∙ take-take c n (units_in order bytes) few
+
+pub returns-in-None-clause-bytes : goal.returns-in-None-clause-bytes
+returns-in-None-clause-bytes c =
+    let bytes = c.args.bytes.now in
+    let units = c.fill_units.new.units in
+    let certain = c.certain_len-certain in
+    let within : 2 * c.min-count.result ≤ length bytes = omega (arith, c.min-count.ensures) in
+    let few : certain.result ≤ c.min-count.result = omega (arith, certain.ensures.within, length-take c.min-count.result units) in
+    units-bytes c.args.order bytes (take certain.result units) certain.result c.type_inv.bytes (omega (arith, few, within)) (prefix-units c.args.order bytes units c.min-count.result certain.result within c.fill_units.ensures few)
+
+pub returns-in-Some-clause-bytes : goal.returns-in-Some-clause-bytes
+returns-in-Some-clause-bytes c =
+    let bytes = c.args.bytes.now in
+    let units = c.fill_units.new.units in
+    let certain = c.certain_len-certain in
+    let within : 2 * c.min-count.result ≤ length bytes = omega (arith, c.min-count.ensures) in
+    let inside = subst (λ r. IfSome r (λ fault. fault.0 < length (take certain.result units))) c.in-Some.is c.fault_in.ensures.within in
+    let few : c.in-Some.index ≤ c.min-count.result = omega (arith, inside, length-take certain.result units, certain.ensures.within, length-take c.min-count.result units) in
+    units-bytes c.args.order bytes (take c.in-Some.index units) c.in-Some.index c.type_inv.bytes (omega (arith, few, within)) (prefix-units c.args.order bytes units c.min-count.result c.in-Some.index within c.fill_units.ensures few)

@@ -3,6 +3,7 @@ use borrow.Rule.Slice.PartMut.{put_mid}
 use Rattle.wide_schemes.specs.PointRuns.{IsPointRun}
 use Rattle.wide_schemes.proofs.PointRuns.{run-decodes, run-state, run-then, run-well_formed}
 use Rattle.wide_schemes.proofs.Puts.{put-at, put-length, rest-slice}
+use Rattle.wide_schemes.proofs.ReadBytes.{run-bytes}
 use Rattle.wide_schemes.proofs.wtf8.decode_wtf8.Goals as goal
 
 pub decode_run-run-requires : goal.decode_run-run-requires
@@ -51,3 +52,10 @@ runs-preserved c =
       space = omega (arith, e.written, part, long, i.space);
       run = both c.args.keeps c.args.after_high c.runs.after_high c.decode_run-run.result.after_high bs units more c.runs.read w c.decode_run-run.result.read c.decode_run-run.result.written i.space e.written i.run e.run;
     }
+
+pub returns-in-Some-clause-bytes : goal.returns-in-Some-clause-bytes
+returns-in-Some-clause-bytes c =
+    let e = c.decode_run-run.ensures in
+    let i = c.runs.invariant in
+    run-bytes c.args.keeps c.args.after_high c.decode_run-run.result.after_high c.args.bytes.now _ _
+    (both c.args.keeps c.args.after_high c.runs.after_high c.decode_run-run.result.after_high c.args.bytes.now c.runs.units c.decode_run-run.new.units c.runs.read c.runs.written c.decode_run-run.result.read c.decode_run-run.result.written i.space e.written i.run e.run)
