@@ -5,3 +5,4 @@ pub mod Wtf8Laws
 pub mod ItemLaws
 pub mod Decoded
 pub mod PointRuns
+pub mod Schemes

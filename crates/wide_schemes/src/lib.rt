@@ -6,6 +6,7 @@
 mod encode;
 mod layout;
 mod progress;
+mod scheme;
 mod text;
 mod utf16;
 mod utf8;
@@ -14,6 +15,7 @@ mod wtf8;
 pub use encode::put_wtf8;
 pub use layout::Layout;
 pub use progress::{DecodeStop, Decoding};
+pub use scheme::{Scheme, keeps_halves, layout_from, layout_to, start_len};
 pub use utf8::decode_utf8;
 pub use utf16::decode_utf16;
 pub use wtf8::decode_wtf8;
