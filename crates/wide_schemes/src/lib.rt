@@ -7,9 +7,11 @@ mod encode;
 mod layout;
 mod progress;
 mod text;
+mod utf32;
 mod utf8;
 
 pub use encode::put_wtf8;
 pub use layout::Layout;
 pub use progress::{DecodeStop, Decoding};
 pub use utf8::decode_utf8;
+pub use utf32::decode_utf32;
