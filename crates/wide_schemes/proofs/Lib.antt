@@ -6,3 +6,4 @@ pub mod Units32
 pub mod Lanes32
 pub mod Scalars32
 pub mod Parts32
+pub mod Bytes32

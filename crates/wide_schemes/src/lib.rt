@@ -3,14 +3,14 @@
 //! the conversions between forms.
 #![tactic(auto)]
 
-mod encode;
+mod bytes;
 mod layout;
 mod progress;
 mod text;
 mod utf32;
 mod utf8;
 
-pub use encode::put_wtf8;
+pub use bytes::{encode, put_wtf8};
 pub use layout::Layout;
 pub use progress::{DecodeStop, Decoding};
 pub use utf8::decode_utf8;
