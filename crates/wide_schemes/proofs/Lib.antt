@@ -6,3 +6,8 @@ pub mod Utf16Chunks
 pub mod Halves
 pub mod PointRuns
 pub mod ReadBytes
+pub mod Units32
+pub mod Lanes32
+pub mod Scalars32
+pub mod Parts32
+pub mod Bytes32

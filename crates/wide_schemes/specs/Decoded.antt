@@ -1,11 +1,14 @@
--- A prefix of UTF-8 as units of 16 bits, and what follows the longest one.
-use Rattle.std.specs.Prelude.{◌≡◌, ℕ, ◌<◌, ◌≤◌, Bool, false, List, [], ◌++◌, drop, length, slice_index}
+-- A prefix of bytes as units of 16 bits, and what follows it.
+use Rattle.std.specs.Prelude.{◌≡◌, ℕ, ◌*◌, ◌<◌, ◌≤◌, Bool, false, List, [], ◌++◌, take, drop, length, slice_index}
+use Rattle.std.specs.Char.{IsScalar}
+use Rattle.std.specs.List.{All}
 use Rattle.std.specs.Str.{IsUtf8, StartsWithNoChar}
 use Rattle.std.specs.Str.{chars as str_chars}
 use Rattle.std.specs.Str.Lossy.{utf8_invalid_len}
 use Rattle.wide_forms.specs.EncodingForm.{Utf16, encode}
+use Rattle.wide_bytes.specs.declared.order.BoM.{BoM}
 use Rattle.wide_conversions.specs.ChunkEnds.{BeginsCharacter}
-use Rattle.wide_schemes.specs.Layouts.{MayFollow}
+use Rattle.wide_schemes.specs.Layouts.{MayFollow, unit32_at, units32_in}
 use Rattle.wide_schemes.specs.declared.progress.DecodeStop.{DecodeStop}
 use Rattle.wide_schemes.specs.declared.progress.DecodeStop.TheVariants.{AtEnd, NoSpace, Incomplete, Fault}
 
@@ -28,3 +31,17 @@ EndsText rest last AtEnd = rest ≡ []
 EndsText rest last NoSpace = ⊥
 EndsText rest last Incomplete = (0 < length rest) × (last ≡ false) × BeginsCharacter rest
 EndsText rest last (Fault unit len) = BeginsIllFormed rest last unit len
+
+-- The first `read` bytes are those of scalar values in UTF-32, and the units are those of these scalar values.
+pub record IsScalarPart (order : BoM) (bytes : List ℕ) (read : ℕ) (us : List ℕ) : Type 0 where
+  pub count : ℕ
+  pub whole : read ≡ 4 * count
+  pub within : read ≤ length bytes
+  pub scalars : All IsScalar (units32_in order (take read bytes))
+  pub units : us ≡ encode Utf16 (units32_in order (take read bytes))
+
+-- The bytes begin with a unit of 32 bits that is no scalar value.
+pub record BeginsWithNoScalar (order : BoM) (bytes : List ℕ) (unit : ℕ) : Type 0 where
+  pub within : 4 ≤ length bytes
+  pub is : unit ≡ unit32_at order bytes 0
+  pub no_scalar : ¬ (IsScalar unit)

@@ -1,5 +1,5 @@
 -- What bytes mean, and what bytes code points have, in each encoding scheme: the Standard's D92 and D95 to D100.
-use Rattle.std.specs.Prelude.{◌≡◌, ℕ, ◌+◌, ◌*◌, ◌<◌, ◌≤◌, Bool, true, false, List, [], ◌∷◌, ◌++◌, drop, length, map, if◌then◌else◌}
+use Rattle.std.specs.Prelude.{◌≡◌, ℕ, ◌+◌, ◌*◌, ◌<◌, ◌≤◌, Bool, true, false, List, [], ◌∷◌, ◌++◌, drop, length, map, slice_index, if◌then◌else◌}
 use Rattle.wide_forms.specs.EncodingForm.{Utf16 as Utf16Form, Utf32 as Utf32Form, encode, IsHighSurrogate}
 use Rattle.wide_forms.specs.Items.{items}
 use Rattle.wide_forms.specs.Searches.{is_surrogate}
@@ -22,6 +22,10 @@ use Rattle.wide_schemes.specs.declared.progress.DecodeStop.TheVariants.{AtEnd, N
 abbrev pub unit32_in : BoM → ℕ → ℕ → ℕ → ℕ → ℕ
 unit32_in Big a b c d = 0x100_0000 * a + 0x1_0000 * b + 0x100 * c + d
 unit32_in Little a b c d = a + 0x100 * b + 0x1_0000 * c + 0x100_0000 * d
+
+-- The code unit at an index in units.
+abbrev pub unit32_at : BoM → List ℕ → ℕ → ℕ
+unit32_at order bytes k = unit32_in order (slice_index bytes (4 * k)) (slice_index bytes (4 * k + 1)) (slice_index bytes (4 * k + 2)) (slice_index bytes (4 * k + 3))
 
 -- The code units of the whole fours of bytes.
 unfoldable pub units32_in : BoM → List ℕ → List ℕ
@@ -58,6 +62,13 @@ encoded Utf8 cs = utf8 cs
 encoded Wtf8 cs = utf8 cs
 encoded (Utf16 order) cs = bytes_in order (encode Utf16Form cs)
 encoded (Utf32 order) cs = bytes32_in order (encode Utf32Form cs)
+
+-- The layouts that have bytes for scalar values alone. The others have some for surrogates that belong to no pair, too.
+abbrev pub needs_text : Layout → Bool
+needs_text Utf8 = false
+needs_text Wtf8 = false
+needs_text (Utf16 order) = false
+needs_text (Utf32 order) = true
 
 -- Any bytes may follow, or none if the bytes are the last ones.
 abbrev pub MayFollow : Bool → List ℕ → Type 0

@@ -3,19 +3,21 @@
 //! the conversions between forms.
 #![tactic(auto)]
 
-mod encode;
+mod bytes;
 mod layout;
 mod progress;
 mod scheme;
 mod text;
 mod utf16;
+mod utf32;
 mod utf8;
 mod wtf8;
 
-pub use encode::put_wtf8;
+pub use bytes::{encode, put_wtf8};
 pub use layout::Layout;
 pub use progress::{DecodeStop, Decoding};
 pub use scheme::{Scheme, keeps_halves, layout_from, layout_to, start_len};
 pub use utf8::decode_utf8;
 pub use utf16::decode_utf16;
+pub use utf32::decode_utf32;
 pub use wtf8::decode_wtf8;

@@ -4,7 +4,7 @@ use Rattle.wide_utf16_to_utf8.specs.Encoded.{EncodedUnits, StopsBefore}
 use Rattle.wide_schemes.specs.Wtf8.{wtf8}
 use Rattle.wide_schemes.specs.Wtf8Laws.{wtf8-nil}
 use Rattle.wide_schemes.proofs.Encoding.{encoded-next, fault-next}
-use Rattle.wide_schemes.proofs.encode.put_wtf8.Goals as goal
+use Rattle.wide_schemes.proofs.bytes.put_wtf8.Goals as goal
 
 pub loop-read-preserved : goal.loop-read-preserved
 loop-read-preserved c =

@@ -1,6 +1,6 @@
 use Rattle.std.proofs.Common.{◌≡◌, ◌-◌, ◌*◌, ◌≤◌, ◌++◌, length, take, drop}
 use Rattle.wide_schemes.specs.Wtf8.{wtf8}
-use Rattle.wide_schemes.proofs.encode.put_wtf8.Given as goal
+use Rattle.wide_schemes.proofs.bytes.put_wtf8.Given as goal
 
 -- The bytes written so far are followed by those of the units that are left.
 abbrev pub invariant-loop-read : goal.invariant-loop-read
