@@ -4,6 +4,7 @@
 #![tactic(auto)]
 
 mod bytes;
+mod decoding;
 mod layout;
 mod progress;
 mod scheme;
@@ -14,6 +15,7 @@ mod utf8;
 mod wtf8;
 
 pub use bytes::{encode, put_wtf8};
+pub use decoding::decode;
 pub use layout::Layout;
 pub use progress::{DecodeStop, Decoding};
 pub use scheme::{Scheme, keeps_halves, layout_from, layout_to, start_len};

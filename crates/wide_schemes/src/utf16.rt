@@ -80,6 +80,7 @@ pub fn decode_utf16(
     ensures written { result.written ≤ length units.new }
     ensures bytes { take result.read bytes.now ≡ encoded (Utf16 order) (code_points Utf16Form (take result.written units.new)) }
     ensures items { Decodes (Utf16 order) keeps false bytes.now is_last result.read (take result.written units.new) false }
+    ensures state { result.after_high ≡ false }
     ensures well_formed { keeps ≡ false → IsWellFormed Utf16Form (take result.written units.new) }
     ensures stop { StopsBefore (Utf16 order) keeps false (drop result.read bytes.now) is_last (length units.new - result.written) result.stop }
 {

@@ -5,10 +5,11 @@ ghost use Rattle.std.specs.Char.{IsScalar};
 ghost use Rattle.std.specs.List.{All};
 ghost use Rattle.wide_forms.specs.EncodingForm.{Utf16, Utf32 as Utf32Form, encode};
 ghost use Rattle.wide_forms.specs.Items.{IsWellFormed};
+ghost use Rattle.wide_unit.specs.CodePoints.{code_points};
 ghost use Rattle.wide_bytes.specs.declared.order.BoM.{BoM};
 ghost use Rattle.wide_bytes.specs.declared.order.BoM.TheVariants.{Big, Little};
 ghost use Rattle.wide_schemes.specs.Decoded.{BeginsWithNoScalar, IsScalarPart};
-ghost use Rattle.wide_schemes.specs.Layouts.{Decodes, StopsBefore, unit32_at, unit32_in, units32_in};
+ghost use Rattle.wide_schemes.specs.Layouts.{Decodes, StopsBefore, encoded, unit32_at, unit32_in, units32_in};
 ghost use Rattle.wide_schemes.specs.declared.layout.Layout.TheVariants.{Utf32};
 
 use crate::progress::{DecodeStop, Decoding};
@@ -188,7 +189,9 @@ fn stop_before(rest: &[u8]) -> DecodeStop
 pub fn decode_utf32(order: BoM, bytes: &[u8], is_last: bool, units: &mut [u16]) -> Decoding
     ensures read { result.read ≤ length bytes.now }
     ensures written { result.written ≤ length units.new }
+    ensures bytes { take result.read bytes.now ≡ encoded (Utf32 order) (code_points Utf16 (take result.written units.new)) }
     ensures items { Decodes (Utf32 order) false false bytes.now is_last result.read (take result.written units.new) false }
+    ensures state { result.after_high ≡ false }
     ensures well_formed { IsWellFormed Utf16 (take result.written units.new) }
     ensures stop { StopsBefore (Utf32 order) false false (drop result.read bytes.now) is_last (length units.new - result.written) result.stop }
 {

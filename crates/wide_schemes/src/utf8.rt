@@ -52,6 +52,7 @@ pub fn decode_utf8(bytes: &[u8], is_last: bool, units: &mut [u16]) -> Decoding
     ensures written { result.written ≤ length units.new }
     ensures bytes { take result.read bytes.now ≡ encoded Utf8 (code_points Utf16 (take result.written units.new)) }
     ensures items { Decodes Utf8 false false bytes.now is_last result.read (take result.written units.new) false }
+    ensures state { result.after_high ≡ false }
     ensures well_formed { IsWellFormed Utf16 (take result.written units.new) }
     ensures stop { StopsBefore Utf8 false false (drop result.read bytes.now) is_last (length units.new - result.written) result.stop }
 {

@@ -6,6 +6,7 @@ use Rattle.wide_schemes.specs.Decoded.{BeginsWithNoScalar}
 use Rattle.wide_schemes.specs.Layouts.{StopsBefore}
 use Rattle.wide_schemes.specs.declared.layout.Layout.TheVariants.{Utf32}
 use Rattle.wide_schemes.proofs.Parts32.{no_scalar-begins, part-decodes, part-none, part-put, part-well_formed}
+use Rattle.wide_schemes.proofs.ReadBytes.{part-bytes32}
 use Rattle.wide_schemes.proofs.Puts.{put-length}
 use Rattle.wide_schemes.proofs.utf32.decode_utf32.Goals.{then-loop-read-test+else-units-written-ge2, else-loop-read-test}
 use Rattle.wide_schemes.proofs.utf32.decode_utf32.Goals as goal
@@ -69,3 +70,13 @@ returns-clause-stop c =
       | else-loop-read-test w ↦ absurd (omega (arith, more, w.loop-read-test.false, ap length rest, length-drop n bytes))
     ] in
     subst (λ xs. StopsBefore (Utf32 order) false false xs c.args.is_last room c.stop_before.result) rest (c.stop_before.ensures order c.args.is_last room enough)
+
+pub returns-in-Some-clause-bytes : goal.returns-in-Some-clause-bytes
+returns-in-Some-clause-bytes c =
+    let step = c.decode_block-step in
+    let order = c.args.order in
+    let bytes = c.args.bytes.now in
+    part-bytes32 order bytes _ (c.loop-read.read + step.result.read) c.type_inv.bytes (part-put order bytes c.loop-read.read c.loop-read.written step.result.read step.result.written c.loop-read.units step.new.units c.loop-read.invariant.space step.ensures.written c.loop-read.invariant.part step.ensures.part)
+
+pub returns-clause-bytes : goal.returns-clause-bytes
+returns-clause-bytes c = part-bytes32 c.args.order c.args.bytes.now _ c.loop-read.read c.type_inv.bytes c.loop-read.invariant.part
