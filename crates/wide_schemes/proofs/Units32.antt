@@ -98,6 +98,12 @@ filled order (suc n) (a ∷ b ∷ c ∷ d ∷ bytes) (u ∷ us) fourth space sam
 pub units32-filled : (order : BoM) (bytes us : List ℕ) → length bytes / 4 ≤ length us → AreUnits32Of order bytes us (length bytes / 4) → take (length bytes / 4) us ≡ units32_in order bytes
 units32-filled order bytes us space same = filled order (length bytes / 4) bytes us refl space same
 
+-- A block of units that was filled from the bytes of as many units.
+pub block-filled : (order : BoM) (bytes units : List ℕ) (count : ℕ) → 4 * count ≤ length bytes → take (length (take (4 * count) bytes) / 4) units ≡ units32_in order (take (4 * count) bytes) → take count units ≡ units32_in order (take (4 * count) bytes)
+block-filled order bytes units count within is =
+    let long : length (take (4 * count) bytes) / 4 ≡ count = omega (arith, length-take-le (4 * count) bytes within) in
+    ap (λ n. take n units) (sym long) ∙ is
+
 -- If four more units are those of the bytes after the ones that were read, all units are those of the bytes.
 pub lanes-more : (bytes us vs ys : List ℕ) (done left : ℕ) → 16 ≤ left → done + 4 ≤ length us → length ys ≡ 4 → take (done + 4) vs ≡ take done us ++ ys → AreUnits32Of Big bytes us done
     → ((k : ℕ) → k < 4 → get_or ys k 0 ≡ unit32_at Big (take left (drop (4 * done) bytes)) k) → AreUnits32Of Big bytes vs (done + 4)

@@ -11,7 +11,7 @@ use Rattle.wide_schemes.specs.Decoded.{BeginsWithNoScalar}
 use Rattle.wide_schemes.specs.Layouts.{units32_in}
 use Rattle.wide_schemes.proofs.Parts32.{part-of_block}
 use Rattle.wide_schemes.proofs.Scalars32.{no_scalar-at, scalars-before}
-use Rattle.wide_schemes.proofs.Units32.{units32_in-at}
+use Rattle.wide_schemes.proofs.Units32.{block-filled, units32_in-at}
 use Rattle.wide_schemes.proofs.utf32.decode_block.Goals.{then-step-valid+then-valid-count, else-step-valid}
 use Rattle.wide_schemes.proofs.utf32.decode_block.Goals as goal
 
@@ -29,8 +29,7 @@ returns-clause-part c =
     let found = subst (λ xs. IsFirstOffset (IsFault Utf32) xs valid) (map-id codes) c.leading_scalars-valid.ensures in
     let few : count ≤ length bytes / 4 = omega (arith, c.min.ensures, c.min-count.ensures) in
     let within : 4 * count ≤ length bytes = omega (arith, few) in
-    let long : length (take (4 * count) bytes) / 4 ≡ count = omega (arith, length-take-le (4 * count) bytes within) in
-    let filled : codes ≡ units32_in c.args.order (take (4 * count) bytes) = ap (λ n. take n c.fill_units_32.new.units) (sym long) ∙ c.fill_units_32.ensures.units in
+    let filled : codes ≡ units32_in c.args.order (take (4 * count) bytes) = block-filled c.args.order bytes c.fill_units_32.new.units count within c.fill_units_32.ensures.units in
     let read = c.put_scalars-step.result.read in
     let below : read ≤ valid = omega (arith, c.put_scalars-step.ensures.read, length-take-le valid codes found.within) in
     let same : take read (take valid codes) ≡ take read codes = take-take read valid codes below in
@@ -49,7 +48,6 @@ returns-clause-some c = elim c.if-step-valid.branch [
         let empty : take step.result.written step.new.units ≡ [] = step.ensures.text ∙ ap (λ n. encode Utf16 (take n (take c.leading_scalars-valid.result codes))) zero in
         let unwritten : step.result.written ≡ 0 = omega (arith, ap length empty, length-take-le step.result.written step.new.units step.ensures.written) in
         let units : 0 < c.min-count.result = omega (arith, c.min.ensures, c.min-count.ensures, c.requires.block, c.requires.some, c.requires.space) in
-        let codes_long : length codes ≡ c.min-count.result = length-take-le c.min-count.result c.fill_units_32.new.units (omega (arith, c.min.ensures, c.min-count.ensures, c.fill_units_32.ensures.long)) in
         let found : c.leading_scalars-valid.result ≤ length codes = omega (arith, c.leading_scalars-valid.ensures.within, length-map codes (λ (u : ℕ). u)) in
         let whole : length (take c.leading_scalars-valid.result codes) ≡ c.leading_scalars-valid.result = length-take-le c.leading_scalars-valid.result codes found in
         let end : c.leading_scalars-valid.result ≡ 0 = elim (cases_lt 0 c.leading_scalars-valid.result) [
@@ -73,8 +71,7 @@ returns-clause-fault c = elim c.if-step-valid.branch [
       let found = subst (λ xs. IsFirstOffset (IsFault Utf32) xs valid) (map-id codes) c.leading_scalars-valid.ensures in
       let few : count ≤ length bytes / 4 = omega (arith, c.min.ensures, c.min-count.ensures) in
       let within : 4 * count ≤ length bytes = omega (arith, few) in
-      let long : length (take (4 * count) bytes) / 4 ≡ count = omega (arith, length-take-le (4 * count) bytes within) in
-      let filled : codes ≡ units32_in c.args.order (take (4 * count) bytes) = ap (λ n. take n c.fill_units_32.new.units) (sym long) ∙ c.fill_units_32.ensures.units in
+      let filled : codes ≡ units32_in c.args.order (take (4 * count) bytes) = block-filled c.args.order bytes c.fill_units_32.new.units count within c.fill_units_32.ensures.units in
       let begins : BeginsWithNoScalar c.args.order (drop (4 * valid) bytes) (get_or codes valid 0) = record {
         within = omega (arith, length-drop (4 * valid) bytes, within, w.if-valid-count.true);
         is = ap (λ xs. get_or xs valid 0) filled ∙ units32_in-at c.args.order bytes count valid within w.if-valid-count.true;
