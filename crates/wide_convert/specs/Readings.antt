@@ -1,0 +1,75 @@
+-- What decoding a window of a text does.
+use Rattle.std.specs.Prelude.{◌≡◌, ℕ, ◌<◌, Bool, true, false, List, [], ◌∷◌, ◌++◌, drop, map, Option, Some, None}
+use Rattle.wide_forms.specs.EncodingForm.{Utf16}
+use Rattle.wide_forms.specs.Items.{IsWellFormed}
+use Rattle.wide_forms.specs.Lossy.{ends_in_fault, replacement}
+use Rattle.wide_forms.specs.declared.policy.Policy.{Policy}
+use Rattle.wide_forms.specs.Segmentation.{Item, Char, Fault}
+use Rattle.wide_unit.specs.CodePoints.{code_points}
+use Rattle.wide_schemes.specs.Layouts.{IsIncomplete, MayFollow, items_in}
+use Rattle.wide_schemes.specs.declared.layout.Layout.{Layout}
+use Rattle.wide_convert.specs.Positions.{IsAfter}
+use Rattle.wide_convert.specs.Texts.{text_by}
+use Rattle.wide_convert.specs.declared.reading.Reading.{Reading}
+use Rattle.wide_convert.specs.declared.window.WindowEnd.{WindowEnd}
+use Rattle.wide_convert.specs.declared.window.WindowEnd.TheVariants.{More, AtEnd, NoSpace, Incomplete, Fault as AtFault}
+
+-- What does not change while a text is read, and the bytes that were read and belong to no item.
+pub record SameText (old new : Reading) : Type 0 where
+  pub scheme : new.scheme ≡ old.scheme
+  pub keeps : new.keeps ≡ old.keeps
+  pub policy : new.policy ≡ old.policy
+  pub layout : new.layout ≡ old.layout
+  pub unread : new.unread ≡ old.unread
+  pub unread_len : new.unread_len ≡ old.unread_len
+
+-- The first `read` bytes are these items, and `us` are the units of their text.
+pub record Passes (layout : Layout) (old new : Reading) (bytes : List ℕ) (last : Bool) (read : ℕ) (us : List ℕ) (passed : List Item) : Type 0 where
+  pub items : (more : List ℕ) → MayFollow last more → items_in layout old.keeps old.after_high (bytes ++ more) ≡ passed ++ items_in layout old.keeps new.after_high (drop read bytes ++ more)
+  pub text : code_points Utf16 us ≡ text_by old.policy old.after_fault passed
+  pub fault : new.after_fault ≡ ends_in_fault old.after_fault passed
+  pub moved : IsAfter old.position new.position read passed
+  pub well_formed : old.keeps ≡ false → IsWellFormed Utf16 us
+
+-- The first `read` bytes are characters, and `us` are their units.
+abbrev pub PassesText : Layout → Reading → Reading → List ℕ → Bool → ℕ → List ℕ → Type 0
+PassesText layout old new bytes last read us = Passes layout old new bytes last read us (map Char (code_points Utf16 us))
+
+-- What is written for a fault, or `None` for nothing.
+abbrev pub replacement_by : Option Policy → Bool → Option ℕ
+replacement_by None after_fault = None
+replacement_by (Some policy) after_fault = replacement policy after_fault
+
+-- Why decoding ends after a fault: without a policy because of it.
+abbrev pub end_after_fault : Option Policy → ℕ → ℕ → WindowEnd
+end_after_fault None unit len = AtFault unit len
+end_after_fault (Some policy) unit len = More
+
+-- A fault of `len` bytes was passed, and its text was written.
+pub record IsFaultPassed (old new : Reading) (unit len : ℕ) (before after : List ℕ) : Type 0 where
+  pub written : after ≡ before ++ text_by old.policy old.after_fault (Fault unit ∷ [])
+  pub fault : new.after_fault ≡ true
+  pub moved : IsAfter old.position new.position len (Fault unit ∷ [])
+
+-- A fault of `len` bytes was passed, or, if there was no space for its text, nothing.
+abbrev pub PassesFault : Reading → Reading → ℕ → ℕ → ℕ → List ℕ → List ℕ → ℕ → WindowEnd → Type 0
+PassesFault old new unit len read before after room NoSpace = (new ≡ old) × (read ≡ 0) × (after ≡ before) × (room ≡ 0)
+PassesFault old new unit len read before after room More = (end_after_fault old.policy unit len ≡ More) × (read ≡ len) × IsFaultPassed old new unit len before after
+PassesFault old new unit len read before after room AtEnd = ⊥
+PassesFault old new unit len read before after room Incomplete = ⊥
+PassesFault old new unit len read before after room (AtFault unit' len') = (end_after_fault old.policy unit len ≡ AtFault unit' len') × (read ≡ len) × IsFaultPassed old new unit len before after
+
+-- The first `read` bytes are characters and a fault, and `us` are the units of their text.
+pub record PassesToFault (layout : Layout) (old new : Reading) (bytes : List ℕ) (last : Bool) (read : ℕ) (us : List ℕ) (unit : ℕ) : Type 0 where
+  pub some : 0 < read
+  pub codes : List ℕ
+  pub passes : Passes layout old new bytes last read us (map Char codes ++ Fault unit ∷ [])
+
+-- Items at the beginning of a window were passed: characters, or characters and a fault. What decoding ended at, where
+-- there is space for `room` more units.
+abbrev pub PassesWindow : Layout → Reading → Reading → List ℕ → Bool → ℕ → List ℕ → ℕ → WindowEnd → Type 0
+PassesWindow layout old new bytes last read us room AtEnd = PassesText layout old new bytes last read us × (drop read bytes ≡ [])
+PassesWindow layout old new bytes last read us room NoSpace = PassesText layout old new bytes last read us × (room < 2)
+PassesWindow layout old new bytes last read us room Incomplete = PassesText layout old new bytes last read us × IsIncomplete layout old.keeps new.after_high (drop read bytes) last
+PassesWindow layout old new bytes last read us room More = (unit : ℕ) × PassesToFault layout old new bytes last read us unit
+PassesWindow layout old new bytes last read us room (AtFault unit len) = (old.policy ≡ None) × PassesToFault layout old new bytes last read us unit

@@ -1,0 +1,10 @@
+//! Converts texts between the encoding schemes of Unicode and WTF-8, chunk by chunk, in constant memory (Unicode
+//! Standard, section 3.10).
+#![tactic(auto)]
+
+mod counts;
+mod position;
+mod reading;
+mod window;
+
+pub use position::Position;

@@ -1,0 +1,41 @@
+//! How much of a text was read.
+
+ghost use Rattle.std.specs.Prelude.{◌≡◌};
+ghost use Rattle.wide_convert.specs.Positions.{counted};
+
+/// A position in a text that is read: what precedes it. Each number stays at 2^64 - 1 if it would be greater.
+#[derive(Clone, Copy, Debug, PartialEq, Eq)]
+pub struct Position {
+    /// How many bytes precede it, those of a BOM included.
+    pub bytes: u64,
+    /// How many items, characters and faults, precede it, without a BOM.
+    pub items: u64,
+    /// How many of these items are faults.
+    pub faults: u64,
+}
+
+impl Position {
+    // Returns the position of the beginning.
+    pub(crate) fn start() -> Position
+        ensures { result ≡ record { bytes = 0; items = 0; faults = 0 } }
+    {
+        Position {
+            bytes: 0,
+            items: 0,
+            faults: 0,
+        }
+    }
+
+    // Returns the position after so many more bytes, items and faults.
+    pub(crate) fn after(self, bytes: usize, items: usize, faults: usize) -> Position
+        ensures bytes { result.bytes ≡ counted self.bytes bytes }
+        ensures items { result.items ≡ counted self.items items }
+        ensures faults { result.faults ≡ counted self.faults faults }
+    {
+        Position {
+            bytes: self.bytes.saturating_add(bytes as u64),
+            items: self.items.saturating_add(items as u64),
+            faults: self.faults.saturating_add(faults as u64),
+        }
+    }
+}
