@@ -59,17 +59,26 @@ PassesFault old new unit len read before after room AtEnd = ⊥
 PassesFault old new unit len read before after room Incomplete = ⊥
 PassesFault old new unit len read before after room (AtFault unit' len') = (end_after_fault old.policy unit len ≡ AtFault unit' len') × (read ≡ len) × IsFaultPassed old new unit len before after
 
--- The first `read` bytes are characters and a fault, and `us` are the units of their text.
-pub record PassesToFault (layout : Layout) (old new : Reading) (bytes : List ℕ) (last : Bool) (read : ℕ) (us : List ℕ) (unit : ℕ) : Type 0 where
-  pub some : 0 < read
-  pub codes : List ℕ
-  pub passes : Passes layout old new bytes last read us (map Char codes ++ Fault unit ∷ [])
+-- The fault at which decoding ended, if it did.
+abbrev pub fault_of : WindowEnd → List Item
+fault_of More = []
+fault_of AtEnd = []
+fault_of NoSpace = []
+fault_of Incomplete = []
+fault_of (AtFault unit len) = Fault unit ∷ []
 
--- Items at the beginning of a window were passed: characters, or characters and a fault. What decoding ended at, where
--- there is space for `room` more units.
-abbrev pub PassesWindow : Layout → Reading → Reading → List ℕ → Bool → ℕ → List ℕ → ℕ → WindowEnd → Type 0
-PassesWindow layout old new bytes last read us room AtEnd = PassesText layout old new bytes last read us × (drop read bytes ≡ [])
-PassesWindow layout old new bytes last read us room NoSpace = PassesText layout old new bytes last read us × (room < 2)
-PassesWindow layout old new bytes last read us room Incomplete = PassesText layout old new bytes last read us × IsIncomplete layout old.keeps new.after_high (drop read bytes) last
-PassesWindow layout old new bytes last read us room More = (unit : ℕ) × PassesToFault layout old new bytes last read us unit
-PassesWindow layout old new bytes last read us room (AtFault unit len) = (old.policy ≡ None) × PassesToFault layout old new bytes last read us unit
+-- What decoding a window ended at, before these bytes, where there is space for `room` more units.
+abbrev pub EndsWindow : Layout → Reading → Reading → List ℕ → Bool → ℕ → ℕ → WindowEnd → Type 0
+EndsWindow layout old new rest last read room AtEnd = rest ≡ []
+EndsWindow layout old new rest last read room NoSpace = room < 2
+EndsWindow layout old new rest last read room Incomplete = IsIncomplete layout old.keeps new.after_high rest last
+EndsWindow layout old new rest last read room More = 0 < read
+EndsWindow layout old new rest last read room (AtFault unit len) = (old.policy ≡ None) × (0 < read)
+
+-- Items at the beginning of a window were passed. Without a policy they are characters, and the fault at which decoding
+-- ended.
+pub record PassesWindow (layout : Layout) (old new : Reading) (bytes : List ℕ) (last : Bool) (read : ℕ) (us : List ℕ) (room : ℕ) (end : WindowEnd) : Type 0 where
+  pub passed : List Item
+  pub passes : Passes layout old new bytes last read us passed
+  pub strict : old.policy ≡ None → passed ≡ map Char (code_points Utf16 us) ++ fault_of end
+  pub ends : EndsWindow layout old new (drop read bytes) last read room end
