@@ -1,3 +1,4 @@
 pub mod Texts
 pub mod Positions
 pub mod Readings
+pub mod Steps

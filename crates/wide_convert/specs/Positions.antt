@@ -1,5 +1,5 @@
 -- Positions in a text, which count up to 2^64 - 1.
-use Rattle.std.specs.Prelude.{◌≡◌, ℕ, ◌+◌, ◌-◌, ◌^◌, List, length, min}
+use Rattle.std.specs.Prelude.{◌≡◌, ℕ, ◌+◌, ◌-◌, ◌^◌, ◌<◌, List, length, min}
 use Rattle.wide_forms.specs.Segmentation.{Item}
 use Rattle.wide_convert.specs.Texts.{faults_in}
 use Rattle.wide_convert.specs.declared.position.Position.{Position}
@@ -13,3 +13,9 @@ pub record IsAfter (old new : Position) (bytes : ℕ) (passed : List Item) : Typ
   pub after_bytes : new.bytes ≡ counted old.bytes bytes
   pub after_items : new.items ≡ counted old.items (length passed)
   pub after_faults : new.faults ≡ counted old.faults (faults_in passed)
+
+-- The numbers have 64 bits.
+pub record IsPosition (position : Position) : Type 0 where
+  pub bytes : position.bytes < 2 ^ 64
+  pub items : position.items < 2 ^ 64
+  pub faults : position.faults < 2 ^ 64

@@ -5,6 +5,7 @@
 mod counts;
 mod position;
 mod reading;
+mod steps;
 mod window;
 
 pub use position::Position;

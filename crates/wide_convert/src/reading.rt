@@ -1,6 +1,7 @@
 //! What is known of a text that is being read.
 
-ghost use Rattle.std.specs.Prelude.{◌≡◌};
+ghost use Rattle.std.specs.Prelude.{◌≡◌, ◌+◌, ◌-◌, ◌≤◌, ◌++◌, drop, length};
+ghost use Rattle.wide_convert.specs.Steps.{SameButUnread, unread_of};
 
 use crate::position::Position;
 use wide_forms::Policy;
@@ -27,4 +28,30 @@ pub(crate) struct Reading {
     pub(crate) unread_len: usize,
     // What was passed.
     pub(crate) position: Position,
+}
+
+// Keeps these bytes after those that are kept.
+pub(crate) fn append_unread(reading: &mut Reading, bytes: &[u8])
+    requires { reading.old.unread_len + length bytes.now ≤ 4 }
+    ensures unread { unread_of reading.new ≡ unread_of reading.old ++ bytes.now }
+    ensures len { reading.new.unread_len ≡ reading.old.unread_len + length bytes.now }
+    ensures same { SameButUnread reading.old reading.new }
+{
+    let kept = reading.unread_len;
+    let all = kept + bytes.len();
+    reading.unread[kept..all].copy_from_slice(bytes);
+    reading.unread_len = all;
+}
+
+// Drops the first bytes of those that are kept.
+pub(crate) fn drop_unread(reading: &mut Reading, len: usize)
+    requires within { len ≤ reading.old.unread_len }
+    requires few { reading.old.unread_len ≤ 4 }
+    ensures unread { unread_of reading.new ≡ drop len (unread_of reading.old) }
+    ensures len { reading.new.unread_len ≡ reading.old.unread_len - len }
+    ensures same { SameButUnread reading.old reading.new }
+{
+    let kept = reading.unread_len;
+    reading.unread.copy_within(len..kept, 0);
+    reading.unread_len = kept - len;
 }

@@ -1,0 +1,91 @@
+-- What is left of a text that is being read, and what a step of reading it does.
+use Rattle.std.specs.Prelude.{◌≡◌, ℕ, ◌+◌, ◌-◌, ◌<◌, ◌≤◌, Bool, true, false, List, [], ◌∷◌, ◌++◌, drop, length, map, take, Option, Some, None}
+use Rattle.wide_forms.specs.EncodingForm.{Utf16}
+use Rattle.wide_forms.specs.Items.{IsWellFormed}
+use Rattle.wide_forms.specs.Lossy.{ends_in_fault}
+use Rattle.wide_forms.specs.Segmentation.{Item, Char, Fault}
+use Rattle.wide_unit.specs.CodePoints.{code_points}
+use Rattle.wide_schemes.specs.Layouts.{IsBeginning, MayFollow, items_in}
+use Rattle.wide_schemes.specs.Schemes.{items_from, start_len}
+use Rattle.wide_schemes.specs.declared.layout.Layout.{Layout}
+use Rattle.wide_convert.specs.Positions.{IsAfter, IsPosition}
+use Rattle.wide_convert.specs.Texts.{text_by}
+use Rattle.wide_convert.specs.declared.reading.Reading.{Reading}
+use Rattle.wide_convert.specs.declared.steps.StepEnd.{StepEnd}
+use Rattle.wide_convert.specs.declared.steps.StepEnd.TheVariants.{More, NeedsInput, NoSpace, Fault as AtFault}
+
+-- Bytes that were read, and that are no item so far.
+abbrev pub unread_of : Reading → List ℕ
+unread_of reading = take reading.unread_len reading.unread
+
+-- The items of the bytes that follow, in the layout if it is known.
+abbrev pub items_after : Option Layout → Reading → List ℕ → List Item
+items_after None reading bytes = items_from reading.scheme reading.keeps bytes
+items_after (Some layout) reading bytes = items_in layout reading.keeps reading.after_high bytes
+
+-- The items that are left if these bytes follow those that were read.
+abbrev pub items_left : Reading → List ℕ → List Item
+items_left reading more = items_after reading.layout reading (unread_of reading ++ more)
+
+-- What always holds of a text that is being read.
+pub record IsReading (reading : Reading) : Type 0 where
+  pub space : length reading.unread ≡ 4
+  pub few : reading.unread_len ≤ 4
+  pub state : reading.keeps ≡ false → reading.after_high ≡ false
+  pub start : reading.layout ≡ None → (reading.after_high ≡ false) × (reading.unread_len ≤ start_len reading.scheme)
+  pub fits : IsPosition reading.position
+
+-- What does not change while a text is read.
+pub record SameKind (old new : Reading) : Type 0 where
+  pub scheme : new.scheme ≡ old.scheme
+  pub keeps : new.keeps ≡ old.keeps
+  pub policy : new.policy ≡ old.policy
+
+-- Nothing changes but the bytes that were read and are no item.
+pub record SameButUnread (old new : Reading) : Type 0 where
+  pub scheme : new.scheme ≡ old.scheme
+  pub keeps : new.keeps ≡ old.keeps
+  pub policy : new.policy ≡ old.policy
+  pub layout : new.layout ≡ old.layout
+  pub after_high : new.after_high ≡ old.after_high
+  pub after_fault : new.after_fault ≡ old.after_fault
+  pub position : new.position ≡ old.position
+  pub space : length new.unread ≡ length old.unread
+
+-- The bytes that were read and are no item are not enough to determine the layout, or the beginning of an item.
+abbrev pub IsWaiting : Option Layout → Reading → Type 0
+IsWaiting None reading = reading.unread_len < start_len reading.scheme
+IsWaiting (Some layout) reading = 0 < reading.unread_len → IsBeginning layout (unread_of reading)
+
+-- How much is left to read: bytes, and the layout if it is not known.
+abbrev pub left_by : Option Layout → ℕ → ℕ
+left_by None bytes = bytes + 1
+left_by (Some layout) bytes = bytes
+
+abbrev pub much_left : Reading → ℕ → ℕ
+much_left reading bytes = left_by reading.layout (reading.unread_len + bytes)
+
+-- The fault at which a step ended, if it did.
+abbrev pub fault_at : StepEnd → List Item
+fault_at More = []
+fault_at NeedsInput = []
+fault_at NoSpace = []
+fault_at (AtFault unit len) = Fault unit ∷ []
+
+-- What a step ended at, where `room` units of space are left.
+abbrev pub EndsStep : Reading → Reading → List ℕ → Bool → ℕ → ℕ → StepEnd → Type 0
+EndsStep old new input last read room More = much_left new (length input - read) < much_left old (length input)
+EndsStep old new input last read room NeedsInput = (read ≡ length input) × ((last ≡ true → items_left new [] ≡ []) × (last ≡ false → IsWaiting new.layout new))
+EndsStep old new input last read room NoSpace = room < 2
+EndsStep old new input last read room (AtFault unit len) = (old.policy ≡ None) × (much_left new (length input - read) < much_left old (length input))
+
+-- A step read the first `read` bytes of the input, and passed these items, and `us` are the units of their text.
+pub record Steps (old new : Reading) (input : List ℕ) (last : Bool) (read : ℕ) (us : List ℕ) (room : ℕ) (end : StepEnd) : Type 0 where
+  pub passed : List Item
+  pub items : (more : List ℕ) → MayFollow last more → items_left old (input ++ more) ≡ passed ++ items_left new (drop read input ++ more)
+  pub text : code_points Utf16 us ≡ text_by old.policy old.after_fault passed
+  pub fault : new.after_fault ≡ ends_in_fault old.after_fault passed
+  pub moved : IsAfter old.position new.position (old.unread_len + read - new.unread_len) passed
+  pub well_formed : old.keeps ≡ false → IsWellFormed Utf16 us
+  pub strict : old.policy ≡ None → passed ≡ map Char (code_points Utf16 us) ++ fault_at end
+  pub ends : EndsStep old new input last read room end
