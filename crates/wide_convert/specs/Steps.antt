@@ -12,6 +12,8 @@ use Rattle.wide_convert.specs.Positions.{IsAfter, IsPosition}
 use Rattle.wide_convert.specs.Texts.{text_by}
 use Rattle.wide_convert.specs.declared.reading.Reading.{Reading}
 use Rattle.wide_convert.specs.declared.steps.StepEnd.{StepEnd}
+use Rattle.wide_convert.specs.declared.window.WindowEnd.{WindowEnd}
+use Rattle.wide_convert.specs.declared.window.WindowEnd.TheVariants.{AtEnd, Incomplete, More as WindowMore, NoSpace as WindowNoSpace, Fault as WindowFault}
 use Rattle.wide_convert.specs.declared.steps.StepEnd.TheVariants.{More, NeedsInput, NoSpace, Fault as AtFault}
 
 -- Bytes that were read, and that are no item so far.
@@ -89,3 +91,11 @@ pub record Steps (old new : Reading) (input : List ℕ) (last : Bool) (read : �
   pub well_formed : old.keeps ≡ false → IsWellFormed Utf16 us
   pub strict : old.policy ≡ None → passed ≡ map Char (code_points Utf16 us) ++ fault_at end
   pub ends : EndsStep old new input last read room end
+
+-- Why a step ended, where a window did, before the input did.
+abbrev pub end_within : WindowEnd → StepEnd
+end_within WindowMore = More
+end_within AtEnd = More
+end_within Incomplete = More
+end_within WindowNoSpace = NoSpace
+end_within (WindowFault unit len) = AtFault unit len

@@ -11,3 +11,4 @@ pub mod Lanes32
 pub mod Scalars32
 pub mod Parts32
 pub mod Bytes32
+pub mod NoItems
