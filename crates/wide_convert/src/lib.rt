@@ -2,6 +2,7 @@
 //! Standard, section 3.10).
 #![tactic(auto)]
 
+mod converter;
 mod counts;
 mod position;
 mod reading;
