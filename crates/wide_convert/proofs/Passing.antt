@@ -15,10 +15,10 @@ use Rattle.wide_forms.specs.Laws.Offsets.{characters-chars}
 use Rattle.wide_forms.specs.Laws.Policies.{characters-append, ends_in_fault-append, lossy_after-append, lossy_after-chars}
 use Rattle.wide_forms.specs.Laws.Splices.{IsWellFormed-append}
 use Rattle.wide_unit.specs.CodePoints.{code_of, code_points}
-use Rattle.wide_schemes.specs.Layouts.{BeginsWithFault, MayFollow, items_in}
+use Rattle.wide_schemes.specs.Layouts.{BeginsWithFault, MayFollow, encoded, items_in}
 use Rattle.wide_schemes.specs.declared.layout.Layout.{Layout}
 use Rattle.wide_convert.specs.Positions.{IsAfter, counted}
-use Rattle.wide_convert.specs.Readings.{EndsWindow, IsFaultPassed, Passes, PassesFault, PassesText, PassesWindow, SameText, end_after_fault, fault_of}
+use Rattle.wide_convert.specs.Readings.{EndsWindow, IsFaultPassed, Passes, PassesFault, PassesText, PassesWindow, SameText, end_after_fault, fault_of, len_of}
 use Rattle.wide_convert.specs.Texts.{faults_in, text_by}
 use Rattle.wide_convert.specs.declared.reading.Reading.{Reading}
 use Rattle.wide_convert.specs.declared.window.WindowEnd.{WindowEnd}
@@ -137,8 +137,8 @@ module _ (layout : Layout) (r s t : Reading) (bytes : List ℕ) (last : Bool) (n
       ap (code_points Utf16) (fault.written ∙ ap (λ xs. us ++ xs) nothing ∙ append-nil us)
 
 -- Where decoding ends because of a fault, there is no policy.
-no-policy : (policy : Option Policy) (unit len unit' len' : ℕ) → end_after_fault policy unit len ≡ AtFault unit' len' → (policy ≡ None) × (unit ≡ unit')
-no-policy None unit len unit' len' e = (refl, cc)
+no-policy : (policy : Option Policy) (unit len unit' len' : ℕ) → end_after_fault policy unit len ≡ AtFault unit' len' → (policy ≡ None) × (unit ≡ unit') × (len ≡ len')
+no-policy None unit len unit' len' e = (refl, cc, cc)
 no-policy (Some policy) unit len unit' len' e = absurd cc
 
 some-policy : (policy : Option Policy) (unit len : ℕ) → end_after_fault policy unit len ≡ More → ¬ (policy ≡ None)
@@ -146,35 +146,39 @@ some-policy None unit len e none = cc
 some-policy (Some policy) unit len e none = cc
 
 -- Characters that were passed, and what decoding ended at.
-pub window-text : (layout : Layout) (r s : Reading) (bytes : List ℕ) (last : Bool) (n : ℕ) (us : List ℕ) (room : ℕ) (end : WindowEnd) → PassesText layout r s bytes last n us → fault_of end ≡ [] → EndsWindow layout r s (drop n bytes) last n room end → PassesWindow layout r s bytes last n us room end
-window-text layout r s bytes last n us room end passes none ends = record {
+pub window-text : (layout : Layout) (r s : Reading) (bytes : List ℕ) (last : Bool) (n : ℕ) (us : List ℕ) (room : ℕ) (end : WindowEnd) → PassesText layout r s bytes last n us → n ≡ length (encoded layout (code_points Utf16 us)) → fault_of end ≡ [] → len_of end ≡ 0 → EndsWindow layout r s (drop n bytes) last n room end → PassesWindow layout r s bytes last n us room end
+window-text layout r s bytes last n us room end passes spans none no_len ends = record {
   passed = map Char (code_points Utf16 us);
   passes = passes;
   strict = λ k. sym (append-nil (map Char (code_points Utf16 us))) ∙ ap (λ is. map Char (code_points Utf16 us) ++ is) (sym none);
+  spans = λ k. omega (arith, spans, no_len);
   ends = ends;
 }
 
 module _ (layout : Layout) (r s t : Reading) (bytes : List ℕ) (last : Bool) (n len unit : ℕ) (us : List ℕ)
-    (passes : PassesText layout r s bytes last n us) (same : SameText r s) (high : t.after_high ≡ s.after_high) (within : n ≤ length bytes)
+    (passes : PassesText layout r s bytes last n us) (spans : n ≡ length (encoded layout (code_points Utf16 us))) (same : SameText r s) (high : t.after_high ≡ s.after_high) (within : n ≤ length bytes)
     (begins : BeginsWithFault layout r.keeps s.after_high (drop n bytes) last unit len) where
   -- What decoding ended at, after characters and the fault that follows them.
   pub window-end : (read : ℕ) (vs : List ℕ) (room room' : ℕ) (end : WindowEnd) → (room ≡ 0 → length vs ≡ length us → room' < 2) → PassesFault s t unit len read us vs room end → PassesWindow layout r t bytes last (n + read) vs room' end
   window-end read vs room room' NoSpace full (still, none, unwritten, no_room) =
       let here : n ≡ n + read = omega (arith, none) in
-      window-text layout r t bytes last (n + read) vs room' NoSpace (subst (λ x. PassesText layout r x bytes last (n + read) vs) (sym still) (subst (λ k. PassesText layout r s bytes last k vs) here (subst (PassesText layout r s bytes last n) (sym unwritten) passes))) refl (full no_room (ap length unwritten))
+      window-text layout r t bytes last (n + read) vs room' NoSpace (subst (λ x. PassesText layout r x bytes last (n + read) vs) (sym still) (subst (λ k. PassesText layout r s bytes last k vs) here (subst (PassesText layout r s bytes last n) (sym unwritten) passes))) (sym here ∙ spans ∙ ap (λ xs. length (encoded layout (code_points Utf16 xs))) (sym unwritten)) refl refl (full no_room (ap length unwritten))
   window-end read vs room room' More full (end, all, fault) = record {
     passed = map Char (code_points Utf16 us) ++ Fault unit ∷ [];
     passes = subst (λ k. Passes layout r t bytes last (n + k) vs (map Char (code_points Utf16 us) ++ Fault unit ∷ [])) (sym all) (passes-fault layout r s t bytes last n len unit us vs passes same high within begins fault);
     strict = λ none. absurd (some-policy s.policy unit len end (same.policy ∙ none));
+    spans = λ none. absurd (some-policy s.policy unit len end (same.policy ∙ none));
     ends = omega (arith, all, begins.some);
   }
   window-end read vs room room' AtEnd full never = absurd never
   window-end read vs room room' Incomplete full never = absurd never
   window-end read vs room room' (AtFault unit' len') full (end, all, fault) =
       let none = no-policy s.policy unit len unit' len' end in
+      let same-codes = strict-fault layout r s t bytes last n len unit us vs passes same high within begins fault none.0 in
       record {
         passed = map Char (code_points Utf16 us) ++ Fault unit ∷ [];
         passes = subst (λ k. Passes layout r t bytes last (n + k) vs (map Char (code_points Utf16 us) ++ Fault unit ∷ [])) (sym all) (passes-fault layout r s t bytes last n len unit us vs passes same high within begins fault);
-        strict = λ k. ap (λ cs. map Char cs ++ Fault unit ∷ []) (sym (strict-fault layout r s t bytes last n len unit us vs passes same high within begins fault none.0)) ∙ ap (λ u. map Char (code_points Utf16 vs) ++ Fault u ∷ []) none.1;
+        strict = λ k. ap (λ cs. map Char cs ++ Fault unit ∷ []) (sym same-codes) ∙ ap (λ u. map Char (code_points Utf16 vs) ++ Fault u ∷ []) none.1;
+        spans = λ k. omega (arith, spans, ap (λ cs. length (encoded layout cs)) same-codes, all, none.2);
         ends = (sym same.policy ∙ none.0, omega (arith, all, begins.some));
       }

@@ -11,15 +11,17 @@ use Rattle.wide_forms.specs.declared.policy.Policy.TheVariants.{Each, Run, Skip}
 use Rattle.wide_forms.specs.Laws.Items.{items-nil}
 use Rattle.wide_unit.specs.CodePoints.{code_of, code_points}
 use Rattle.wide_bytes.specs.Bytes.{bom_of}
-use Rattle.wide_schemes.specs.Layouts.{MayFollow, items_in}
+use Rattle.wide_schemes.specs.Layouts.{MayFollow, encoded, items_in}
 use Rattle.wide_schemes.specs.Schemes.{bom32_of, bom_len, items_from, layout_from, start_len}
 use Rattle.wide_schemes.specs.declared.scheme.Scheme.{Scheme}
 use Rattle.wide_schemes.specs.declared.scheme.Scheme.TheVariants.{Utf8, Wtf8, Utf16Le, Utf16Be, Utf16, Utf32Le, Utf32Be, Utf32}
 use Rattle.wide_convert.specs.Positions.{IsAfter, IsPosition, counted}
-use Rattle.wide_convert.specs.Steps.{IsReading, IsWaiting, SameButUnread, Steps, items_after, items_left, left_by, much_left, unread_of}
+use Rattle.wide_convert.specs.Steps.{IsReading, IsStart, IsWaiting, StartsStep, SameButUnread, Steps, items_after, items_left, left_by, much_left, unread_of}
 use Rattle.wide_convert.specs.declared.steps.StepEnd.TheVariants.{More, NeedsInput}
 use Rattle.wide_forms.specs.Laws.Splices.{IsWellFormed-nil}
 use Rattle.wide_schemes.specs.declared.layout.Layout.{Layout}
+use Rattle.wide_schemes.specs.declared.layout.Layout.TheVariants.{Utf8 as Utf8Layout, Wtf8 as Wtf8Layout, Utf16 as Utf16Layout, Utf32 as Utf32Layout}
+use Rattle.wide_bytes.specs.declared.order.BoM.TheVariants.{Big, Little}
 use Rattle.wide_convert.specs.Texts.{text_by}
 use Rattle.wide_convert.specs.declared.reading.Reading.{Reading}
 
@@ -39,9 +41,9 @@ pub counted-none : (n : ℕ) → n < 2 ^ 64 → n ≡ counted n 0
 counted-none n fits = omega (arith, fits)
 
 -- The layout is determined by as many bytes as it needs.
-record IsKnown (scheme : Scheme) (bs more : List ℕ) : Type 0 where
-  layout : layout_from scheme (bs ++ more) ≡ layout_from scheme bs
-  bom : bom_len scheme (bs ++ more) ≡ bom_len scheme bs
+pub record IsKnown (scheme : Scheme) (bs more : List ℕ) : Type 0 where
+  pub layout : layout_from scheme (bs ++ more) ≡ layout_from scheme bs
+  pub bom : bom_len scheme (bs ++ more) ≡ bom_len scheme bs
 
 known : (scheme : Scheme) (bs more : List ℕ) → start_len scheme ≤ length bs → IsKnown scheme bs more
 known Utf8 bs more enough = record { layout = refl; bom = refl }
@@ -58,6 +60,11 @@ known Utf32 (a ∷ []) more enough = absurd (omega arith)
 known Utf32 (a ∷ b ∷ []) more enough = absurd (omega arith)
 known Utf32 (a ∷ b ∷ c ∷ []) more enough = absurd (omega arith)
 known Utf32 (a ∷ b ∷ c ∷ d ∷ bs) more enough = record { layout = refl; bom = refl }
+
+-- The layout is determined by the bytes, or these are all.
+known-or : (scheme : Scheme) (bs more : List ℕ) → (start_len scheme ≤ length bs) ⊎ (more ≡ []) → IsKnown scheme bs more
+known-or scheme bs more (inl enough) = known scheme bs more enough
+known-or scheme bs more (inr none) = (let all : bs ++ more ≡ bs = ap (λ xs. bs ++ xs) none ∙ append-nil bs in record { layout = ap (layout_from scheme) all; bom = ap (bom_len scheme) all })
 
 -- A BOM is among the bytes.
 pub bom-within : (scheme : Scheme) (bs : List ℕ) → bom_len scheme bs ≤ length bs
@@ -110,12 +117,14 @@ module _ (r s : Reading) (input : List ℕ) (last : Bool) (read : ℕ) (ready : 
         };
         well_formed = λ k. IsWellFormed-nil Utf16Form;
         strict = λ k. no-codes;
+        starts = subst (λ l. StartsStep l s.layout r s input last) (sym closed) (subst (λ l. StartsStep None l r s input last) (sym still) (same.bom ∙ ready.no_bom closed));
+        spans = λ k layout open'. absurd (let e = sym still ∙ open' in cc);
         ends = (omega (arith, least, few, len), ((λ l. absurd (let e = not_last in cc)), λ l. subst (λ x. IsWaiting x s) (sym still) (subst (λ scheme. s.unread_len < start_len scheme) (sym same.scheme) few)));
       }
 
   -- The layout was determined, and a BOM was passed.
   module _ (t : Reading) (layout : Layout) (bom : ℕ) (enough : last ≡ false → start_len r.scheme ≤ s.unread_len) (layout-is : layout ≡ layout_from s.scheme (unread_of s)) (bom-is : bom ≡ bom_len s.scheme (unread_of s))
-      (open' : t.layout ≡ Some layout) (t-unread : unread_of t ≡ drop bom (unread_of s)) (t-len : t.unread_len ≡ s.unread_len - bom) (t-keeps : t.keeps ≡ s.keeps) (t-high : t.after_high ≡ s.after_high) (t-fault : t.after_fault ≡ s.after_fault)
+      (open' : t.layout ≡ Some layout) (t-unread : unread_of t ≡ drop bom (unread_of s)) (t-len : t.unread_len ≡ s.unread_len - bom) (t-keeps : t.keeps ≡ s.keeps) (t-high : t.after_high ≡ s.after_high) (t-fault : t.after_fault ≡ s.after_fault) (t-bom : t.bom ≡ bom)
       (t-bytes : t.position.bytes ≡ counted s.position.bytes bom) (t-items : t.position.items ≡ counted s.position.items 0) (t-faults : t.position.faults ≡ counted s.position.faults 0) (known-len : length (unread_of s) ≡ s.unread_len) where
     rest-known : (more : List ℕ) → MayFollow last more → (start_len r.scheme ≤ length (unread_of s)) ⊎ (drop read input ++ more ≡ [])
     rest-known more may = elim (cases_Bool last) [
@@ -140,6 +149,27 @@ module _ (r s : Reading) (input : List ℕ) (last : Bool) (read : ℕ) (ready : 
         ∙ ap (λ xs. items_in layout r.keeps false (xs ++ rest)) (sym t-unread) ∙ ap (λ keeps. items_in layout keeps false (unread_of t ++ rest)) (sym (t-keeps ∙ same.keeps)) ∙ ap (λ h. items_in layout t.keeps h (unread_of t ++ rest)) (sym high)
         ∙ ap (λ l. items_after l t (unread_of t ++ rest)) (sym open')
 
+    start-known : IsStart r t input last layout
+    start-known = record {
+      layout_is = λ more may.
+        ap (layout_from r.scheme) (kept-all (unread_of r) input more read ∙ ap (λ xs. xs ++ (drop read input ++ more)) (sym kept)) ∙ (known-or r.scheme (unread_of s) (drop read input ++ more) (rest-known more may)).layout
+        ∙ ap (λ scheme. layout_from scheme (unread_of s)) (sym same.scheme) ∙ sym layout-is;
+      bom_is = λ more may.
+        ap (bom_len r.scheme) (kept-all (unread_of r) input more read ∙ ap (λ xs. xs ++ (drop read input ++ more)) (sym kept)) ∙ (known-or r.scheme (unread_of s) (drop read input ++ more) (rest-known more may)).bom
+        ∙ ap (λ scheme. bom_len scheme (unread_of s)) (sym same.scheme) ∙ sym (t-bom ∙ bom-is);
+    }
+
+    no-bytes : (layout' : Layout) → length (encoded layout' (code_points Utf16Form [])) ≡ 0
+    no-bytes layout' = ap (λ is. length (encoded layout' (map code_of is))) (items-nil Utf16Form) ∙ none layout'
+      where
+        none : (l : Layout) → length (encoded l []) ≡ 0
+        none Utf8Layout = refl
+        none Wtf8Layout = refl
+        none (Utf16Layout Big) = refl
+        none (Utf16Layout Little) = refl
+        none (Utf32Layout Big) = refl
+        none (Utf32Layout Little) = refl
+
     pub opens : (room : ℕ) → Steps r t input last read [] room More
     opens room = record {
       passed = [];
@@ -153,5 +183,7 @@ module _ (r s : Reading) (input : List ℕ) (last : Bool) (read : ℕ) (ready : 
       };
       well_formed = λ k. IsWellFormed-nil Utf16Form;
       strict = λ k. no-codes;
+      starts = subst (λ l. StartsStep l t.layout r t input last) (sym closed) (subst (λ l. StartsStep None l r t input last) (sym open') start-known);
+      spans = λ k layout' e. omega (arith, no-bytes layout', ready.no_bom closed, t-bom, len, t-len, within);
       ends = subst (λ l. left_by l (t.unread_len + (length input - read)) < much_left r (length input)) (sym open') (subst (λ l. t.unread_len + (length input - read) < left_by l (r.unread_len + length input)) (sym closed) (omega (arith, t-len, len, least)));
     }

@@ -6,15 +6,15 @@ use Rattle.std.proofs.Math.Seq.{drop-append-add}
 use Rattle.wide_forms.specs.EncodingForm.{Utf16}
 use Rattle.wide_forms.specs.Segmentation.{Item, Char, Fault}
 use Rattle.wide_unit.specs.CodePoints.{code_points}
-use Rattle.wide_schemes.specs.Layouts.{MayFollow, items_in}
+use Rattle.wide_schemes.specs.Layouts.{MayFollow, encoded, items_in}
 use Rattle.std.proofs.lemmas.Bool.{cases_lt}
 use Rattle.wide_schemes.proofs.NoItems.{items-none}
 use Rattle.wide_schemes.specs.declared.layout.Layout.{Layout}
 use Rattle.wide_convert.specs.declared.steps.StepEnd.TheVariants.{NeedsInput}
 use Rattle.wide_convert.specs.Steps.{IsWaiting}
 use Rattle.wide_convert.specs.Positions.{IsAfter}
-use Rattle.wide_convert.specs.Readings.{EndsWindow, PassesWindow, SameText, fault_of}
-use Rattle.wide_convert.specs.Steps.{EndsStep, SameButUnread, Steps, end_within, fault_at, items_after, items_left, much_left, left_by, unread_of}
+use Rattle.wide_convert.specs.Readings.{EndsWindow, PassesWindow, SameText, fault_of, len_of}
+use Rattle.wide_convert.specs.Steps.{EndsStep, IsOpen, SameButUnread, StartsStep, Steps, end_within, fault_at, len_at, items_after, items_left, much_left, left_by, unread_of}
 use Rattle.wide_convert.specs.declared.reading.Reading.{Reading}
 use Rattle.wide_convert.specs.declared.steps.StepEnd.{StepEnd}
 use Rattle.wide_convert.specs.declared.window.WindowEnd.{WindowEnd}
@@ -24,7 +24,7 @@ use Rattle.wide_convert.specs.declared.window.WindowEnd.TheVariants.{More, AtEnd
 module _ (layout : Layout) (r s t : Reading) (input window beyond : List ℕ) (last last_window : Bool) (n read : ℕ) (us : List ℕ) (room : ℕ) (end : WindowEnd) (end' : StepEnd)
     (known : r.layout ≡ Some layout) (passes : PassesWindow layout r s window last_window n us room end) (same : SameText r s) (kept : SameButUnread s t)
     (whole : (more : List ℕ) → unread_of r ++ (input ++ more) ≡ window ++ (beyond ++ more)) (rest : (more : List ℕ) → unread_of t ++ (drop read input ++ more) ≡ drop n window ++ (beyond ++ more))
-    (follow : (more : List ℕ) → MayFollow last more → MayFollow last_window (beyond ++ more)) (passed : r.unread_len + read - t.unread_len ≡ n) (fault-is : fault_at end' ≡ fault_of end)
+    (follow : (more : List ℕ) → MayFollow last more → MayFollow last_window (beyond ++ more)) (passed : r.unread_len + read - t.unread_len ≡ n) (fault-is : fault_at end' ≡ fault_of end) (len-is : len_at end' ≡ len_of end)
     (ends : EndsStep r t input last read room end') where
   still : t.layout ≡ Some layout
   still = kept.layout ∙ same.layout ∙ known
@@ -41,6 +41,10 @@ module _ (layout : Layout) (r s t : Reading) (input window beyond : List ℕ) (l
     moved = subst (λ k. IsAfter r.position t.position k passes.passed) (sym passed) (subst (λ p. IsAfter r.position p n passes.passed) (sym kept.position) passes.passes.moved);
     well_formed = passes.passes.well_formed;
     strict = λ none. passes.strict none ∙ ap (λ is. map Char (code_points Utf16 us) ++ is) (sym fault-is);
+    starts = subst (λ l. StartsStep l t.layout r t input last) (sym known) (record { known = still; bom = kept.bom ∙ same.bom });
+    spans = λ none layout' open'.
+      let e : layout ≡ layout' = (let f = sym still ∙ open' in cc) in
+      subst (λ l. r.bom + (r.unread_len + read - t.unread_len) ≡ t.bom + (length (encoded l (code_points Utf16 us)) + len_at end')) e (omega (arith, passes.spans none, passed, kept.bom, same.bom, len-is));
     ends = ends;
   }
 
@@ -52,16 +56,26 @@ fault-within NoSpace = refl
 fault-within Incomplete = refl
 fault-within (AtFault unit len) = refl
 
+pub len-within : (end : WindowEnd) → len_at (end_within end) ≡ len_of end
+len-within More = refl
+len-within AtEnd = refl
+len-within NoSpace = refl
+len-within Incomplete = refl
+len-within (AtFault unit len) = refl
+
 -- A step that ends where a window did, before the input did.
 module _ (layout : Layout) (r s t : Reading) (input window : List ℕ) (last last_window : Bool) (n read room : ℕ)
     (known : r.layout ≡ Some layout) (still : t.layout ≡ Some layout) (passed : r.unread_len + read ≡ n + t.unread_len) (within : read ≤ length input) where
   less : 0 < n → much_left t (length input - read) < much_left r (length input)
   less positive = subst (λ l. left_by l (t.unread_len + (length input - read)) < much_left r (length input)) (sym still) (subst (λ l. t.unread_len + (length input - read) < left_by l (r.unread_len + length input)) (sym known) (omega (arith, positive, passed, within)))
 
+  no_more : much_left t (length input - read) ≤ much_left r (length input)
+  no_more = subst (λ l. left_by l (t.unread_len + (length input - read)) ≤ much_left r (length input)) (sym still) (subst (λ l. t.unread_len + (length input - read) ≤ left_by l (r.unread_len + length input)) (sym known) (omega (arith, passed, within)))
+
   pub within-ends : (end : WindowEnd) → (end ≡ AtEnd → 0 < length window) → (end ≡ Incomplete → 0 < n) → EndsWindow layout r s (drop n window) last_window n room end → EndsStep r t input last read room (end_within end)
   within-ends More filled some ends = less ends
   within-ends AtEnd filled some ends = less (omega (arith, filled refl, ap length ends, length-drop n window))
-  within-ends NoSpace filled some ends = ends
+  within-ends NoSpace filled some ends = (ends, no_more)
   within-ends Incomplete filled some ends = less (some refl)
   within-ends (AtFault unit len) filled some ends = (ends.0, less ends.1)
 
@@ -108,7 +122,7 @@ module _ (layout : Layout) (r s t : Reading) (input window : List ℕ) (last las
       window-steps layout r s t input window (drop m input) last last_window n 0 us room end (end_within end) known passes same kept
         (λ more. kept-whole (unread_of r) window input more m window-is)
         (λ more. ap (λ xs. xs ++ (input ++ more)) (t-unread ∙ ap (drop n) same-unread) ∙ kept-rest (unread_of r) window input more m n window-is (omega (arith, fewer, kept-len)))
-        (λ more may. none-may input more m last last_window given may) (omega (arith, t-len, s-len, fewer)) (fault-within end)
+        (λ more may. none-may input more m last last_window given may) (omega (arith, t-len, s-len, fewer)) (fault-within end) (len-within end)
         (within-ends layout r s t input window last last_window n 0 room known t-known (omega (arith, t-len, s-len, fewer)) (omega arith) end (λ e. filled) (λ e. absurd (other e)) passes.ends)
 
   -- All bytes that were kept were read.
@@ -120,7 +134,7 @@ module _ (layout : Layout) (r s t : Reading) (input window : List ℕ) (last las
       window-steps layout r s t input window (drop m input) last last_window n (n - r.unread_len) us room end (end_within end) known passes same kept
         (λ more. kept-whole (unread_of r) window input more m window-is)
         (λ more. ap (λ xs. xs ++ (drop (n - r.unread_len) input ++ more)) none ∙ ap (λ k. drop (n - k) input ++ more) (sym kept-len) ∙ read-rest (unread_of r) window input more m n window-is few (omega (arith, all, kept-len)) within)
-        (λ more may. none-may input more m last last_window given may) (omega (arith, t-len, s-len, all)) (fault-within end)
+        (λ more may. none-may input more m last last_window given may) (omega (arith, t-len, s-len, all)) (fault-within end) (len-within end)
         (within-ends layout r s t input window last last_window n (n - r.unread_len) room known t-known (omega (arith, t-len, s-len, all)) (omega (arith, within, long, few)) end (λ e. filled) (λ e. omega (arith, all, some)) passes.ends)
 
 -- A step over the first bytes of the input, where none are kept.
@@ -129,7 +143,7 @@ module _ (layout : Layout) (r s : Reading) (input : List ℕ) (last last_window 
     (few : m ≤ length input) (empty : r.unread_len ≡ 0) (given : IsTrue last_window → (last ≡ true) × (length input - m ≡ 0)) (within : n ≤ length (take m input)) (least : m < length input → 8 ≤ m)
     (whole-end : length input - m ≡ 0 → end ≡ AtEnd → end' ≡ NeedsInput) (other-end : (length input - m ≡ 0 → end ≡ AtEnd → ⊥) → end' ≡ end_within end) (not-kept : length input - m ≡ 0 → ¬ (end ≡ Incomplete)) where
   kept-none : SameButUnread s s
-  kept-none = record { scheme = refl; keeps = refl; policy = refl; layout = refl; after_high = refl; after_fault = refl; position = refl; space = refl }
+  kept-none = record { scheme = refl; keeps = refl; policy = refl; layout = refl; after_high = refl; after_fault = refl; bom = refl; position = refl; space = refl }
 
   s-empty : s.unread_len ≡ 0
   s-empty = same.unread_len ∙ empty
@@ -140,12 +154,12 @@ module _ (layout : Layout) (r s : Reading) (input : List ℕ) (last last_window 
   s-known : s.layout ≡ Some layout
   s-known = same.layout ∙ known
 
-  steps-by : (end'' : StepEnd) → fault_at end'' ≡ fault_of end → EndsStep r s input last n room end'' → Steps r s input last n us room end''
-  steps-by end'' fault-is ends =
+  steps-by : (end'' : StepEnd) → fault_at end'' ≡ fault_of end → len_at end'' ≡ len_of end → EndsStep r s input last n room end'' → Steps r s input last n us room end''
+  steps-by end'' fault-is len-is ends =
       window-steps layout r s s input (take m input) (drop m input) last last_window n n us room end end'' known passes same kept-none
         (λ more. ap (λ xs. xs ++ (input ++ more)) (none-of r empty) ∙ kept-whole [] (take m input) input more m refl)
         (λ more. ap (λ xs. xs ++ (drop n input ++ more)) (none-of s s-empty) ∙ ap (λ k. drop k input ++ more) (omega arith) ∙ read-rest [] (take m input) input more m n refl few (omega arith) within)
-        (λ more may. none-may input more m last last_window given may) (omega (arith, empty, s-empty)) fault-is ends
+        (λ more may. none-may input more m last last_window given may) (omega (arith, empty, s-empty)) fault-is len-is ends
 
   incomplete-some : end ≡ Incomplete → 0 < n
   incomplete-some e = elim (cases_lt m (length input)) [
@@ -155,14 +169,14 @@ module _ (layout : Layout) (r s : Reading) (input : List ℕ) (last last_window 
 
   other-steps : (length input - m ≡ 0 → end ≡ AtEnd → ⊥) → Steps r s input last n us room (end_within end)
   other-steps other =
-      steps-by (end_within end) (fault-within end)
+      steps-by (end_within end) (fault-within end) (len-within end)
         (within-ends layout r s s input (take m input) last last_window n n room known s-known (omega (arith, empty, s-empty)) (omega (arith, within, length-take m input)) end
           (λ e. elim (cases_lt m (length input)) [ | inl cut ↦ omega (arith, least cut, length-take m input, few) | inr all ↦ absurd (other (omega (arith, all)) e) ]) incomplete-some passes.ends)
 
   done-steps : length input - m ≡ 0 → end ≡ AtEnd → Steps r s input last n us room NeedsInput
   done-steps all e =
       let rest = subst (EndsWindow layout r s (drop n (take m input)) last_window n room) e passes.ends in
-      steps-by NeedsInput (ap fault_of (sym e))
+      steps-by NeedsInput (ap fault_of (sym e)) (ap len_of (sym e))
         (omega (arith, ap length rest, length-drop n (take m input), length-take m input, all, few, within),
           ((λ l. ap (λ x. items_after x s (unread_of s ++ [])) s-known ∙ ap (λ xs. items_in layout s.keeps s.after_high (xs ++ [])) (none-of s s-empty) ∙ items-none layout s.keeps s.after_high),
             (λ l. subst (λ x. IsWaiting x s) (sym s-known) (λ some. absurd (omega (arith, some, s-empty))))))

@@ -1,12 +1,12 @@
 -- What decoding a window of a text does.
-use Rattle.std.specs.Prelude.{◌≡◌, ℕ, ◌<◌, Bool, true, false, List, [], ◌∷◌, ◌++◌, drop, map, Option, Some, None}
+use Rattle.std.specs.Prelude.{◌≡◌, ℕ, ◌+◌, ◌<◌, Bool, true, false, List, [], ◌∷◌, ◌++◌, drop, map, Option, Some, None, length}
 use Rattle.wide_forms.specs.EncodingForm.{Utf16}
 use Rattle.wide_forms.specs.Items.{IsWellFormed}
 use Rattle.wide_forms.specs.Lossy.{ends_in_fault, replacement}
 use Rattle.wide_forms.specs.declared.policy.Policy.{Policy}
 use Rattle.wide_forms.specs.Segmentation.{Item, Char, Fault}
 use Rattle.wide_unit.specs.CodePoints.{code_points}
-use Rattle.wide_schemes.specs.Layouts.{IsIncomplete, MayFollow, items_in}
+use Rattle.wide_schemes.specs.Layouts.{IsIncomplete, MayFollow, encoded, items_in}
 use Rattle.wide_schemes.specs.declared.layout.Layout.{Layout}
 use Rattle.wide_convert.specs.Positions.{IsAfter}
 use Rattle.wide_convert.specs.Texts.{text_by}
@@ -22,6 +22,7 @@ pub record SameText (old new : Reading) : Type 0 where
   pub layout : new.layout ≡ old.layout
   pub unread : new.unread ≡ old.unread
   pub unread_len : new.unread_len ≡ old.unread_len
+  pub bom : new.bom ≡ old.bom
 
 -- The first `read` bytes are these items, and `us` are the units of their text.
 pub record Passes (layout : Layout) (old new : Reading) (bytes : List ℕ) (last : Bool) (read : ℕ) (us : List ℕ) (passed : List Item) : Type 0 where
@@ -67,6 +68,14 @@ fault_of NoSpace = []
 fault_of Incomplete = []
 fault_of (AtFault unit len) = Fault unit ∷ []
 
+-- The length in bytes of that fault, or 0.
+abbrev pub len_of : WindowEnd → ℕ
+len_of More = 0
+len_of AtEnd = 0
+len_of NoSpace = 0
+len_of Incomplete = 0
+len_of (AtFault unit len) = len
+
 -- What decoding a window ended at, before these bytes, where there is space for `room` more units.
 abbrev pub EndsWindow : Layout → Reading → Reading → List ℕ → Bool → ℕ → ℕ → WindowEnd → Type 0
 EndsWindow layout old new rest last read room AtEnd = rest ≡ []
@@ -81,4 +90,5 @@ pub record PassesWindow (layout : Layout) (old new : Reading) (bytes : List ℕ)
   pub passed : List Item
   pub passes : Passes layout old new bytes last read us passed
   pub strict : old.policy ≡ None → passed ≡ map Char (code_points Utf16 us) ++ fault_of end
+  pub spans : old.policy ≡ None → read ≡ length (encoded layout (code_points Utf16 us)) + len_of end
   pub ends : EndsWindow layout old new (drop read bytes) last read room end

@@ -5,8 +5,8 @@ use Rattle.wide_forms.specs.Items.{IsWellFormed}
 use Rattle.wide_forms.specs.Lossy.{ends_in_fault}
 use Rattle.wide_forms.specs.Segmentation.{Item, Char, Fault}
 use Rattle.wide_unit.specs.CodePoints.{code_points}
-use Rattle.wide_schemes.specs.Layouts.{IsBeginning, MayFollow, items_in}
-use Rattle.wide_schemes.specs.Schemes.{items_from, start_len}
+use Rattle.wide_schemes.specs.Layouts.{IsBeginning, MayFollow, encoded, items_in}
+use Rattle.wide_schemes.specs.Schemes.{bom_len, items_from, layout_from, start_len}
 use Rattle.wide_schemes.specs.declared.layout.Layout.{Layout}
 use Rattle.wide_convert.specs.Positions.{IsAfter, IsPosition}
 use Rattle.wide_convert.specs.Texts.{text_by}
@@ -35,6 +35,7 @@ pub record IsReading (reading : Reading) : Type 0 where
   pub few : reading.unread_len ≤ 4
   pub state : reading.keeps ≡ false → reading.after_high ≡ false
   pub start : reading.layout ≡ None → (reading.after_high ≡ false) × (reading.unread_len ≤ start_len reading.scheme)
+  pub no_bom : reading.layout ≡ None → reading.bom ≡ 0
   pub fits : IsPosition reading.position
 
 -- What does not change while a text is read.
@@ -51,6 +52,7 @@ pub record SameButUnread (old new : Reading) : Type 0 where
   pub layout : new.layout ≡ old.layout
   pub after_high : new.after_high ≡ old.after_high
   pub after_fault : new.after_fault ≡ old.after_fault
+  pub bom : new.bom ≡ old.bom
   pub position : new.position ≡ old.position
   pub space : length new.unread ≡ length old.unread
 
@@ -74,11 +76,34 @@ fault_at NeedsInput = []
 fault_at NoSpace = []
 fault_at (AtFault unit len) = Fault unit ∷ []
 
+-- The length in bytes of that fault, or 0.
+abbrev pub len_at : StepEnd → ℕ
+len_at More = 0
+len_at NeedsInput = 0
+len_at NoSpace = 0
+len_at (AtFault unit len) = len
+
+-- The layout was determined, and is that of the whole text, as is the BOM that was passed.
+pub record IsStart (old new : Reading) (input : List ℕ) (last : Bool) (layout : Layout) : Type 0 where
+  pub layout_is : (more : List ℕ) → MayFollow last more → layout_from old.scheme (unread_of old ++ (input ++ more)) ≡ layout
+  pub bom_is : (more : List ℕ) → MayFollow last more → bom_len old.scheme (unread_of old ++ (input ++ more)) ≡ new.bom
+
+-- The layout of a text that was known stays the same, as does its BOM.
+pub record IsOpen (old new : Reading) (layout : Layout) : Type 0 where
+  pub known : new.layout ≡ Some layout
+  pub bom : new.bom ≡ old.bom
+
+-- What is known of the layout and of the BOM after a step.
+abbrev pub StartsStep : Option Layout → Option Layout → Reading → Reading → List ℕ → Bool → Type 0
+StartsStep None None old new input last = new.bom ≡ 0
+StartsStep None (Some layout) old new input last = IsStart old new input last layout
+StartsStep (Some layout) after old new input last = IsOpen old new layout
+
 -- What a step ended at, where `room` units of space are left.
 abbrev pub EndsStep : Reading → Reading → List ℕ → Bool → ℕ → ℕ → StepEnd → Type 0
 EndsStep old new input last read room More = much_left new (length input - read) < much_left old (length input)
 EndsStep old new input last read room NeedsInput = (read ≡ length input) × ((last ≡ true → items_left new [] ≡ []) × (last ≡ false → IsWaiting new.layout new))
-EndsStep old new input last read room NoSpace = room < 2
+EndsStep old new input last read room NoSpace = (room < 2) × (much_left new (length input - read) ≤ much_left old (length input))
 EndsStep old new input last read room (AtFault unit len) = (old.policy ≡ None) × (much_left new (length input - read) < much_left old (length input))
 
 -- A step read the first `read` bytes of the input, and passed these items, and `us` are the units of their text.
@@ -90,6 +115,8 @@ pub record Steps (old new : Reading) (input : List ℕ) (last : Bool) (read : �
   pub moved : IsAfter old.position new.position (old.unread_len + read - new.unread_len) passed
   pub well_formed : old.keeps ≡ false → IsWellFormed Utf16 us
   pub strict : old.policy ≡ None → passed ≡ map Char (code_points Utf16 us) ++ fault_at end
+  pub starts : StartsStep old.layout new.layout old new input last
+  pub spans : old.policy ≡ None → (layout : Layout) → new.layout ≡ Some layout → old.bom + (old.unread_len + read - new.unread_len) ≡ new.bom + (length (encoded layout (code_points Utf16 us)) + len_at end)
   pub ends : EndsStep old new input last read room end
 
 -- Why a step ended, where a window did, before the input did.

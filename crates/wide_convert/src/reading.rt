@@ -26,6 +26,8 @@ pub(crate) struct Reading {
     pub(crate) unread: [u8; 4],
     // How many of these bytes there are.
     pub(crate) unread_len: usize,
+    // The length in bytes of the BOM that was passed. It is 0 before that, and without one.
+    pub(crate) bom: usize,
     // What was passed.
     pub(crate) position: Position,
 }

@@ -72,6 +72,7 @@ fn open(reading: &mut Reading, input: &[u8], is_last: bool) -> Step
     let (layout, bom) = layout_from(reading.scheme, &reading.unread[..reading.unread_len]);
     drop_unread(reading, bom);
     reading.layout = Some(layout);
+    reading.bom = bom;
     reading.position = reading.position.after(bom, 0, 0);
     Step {
         read,

@@ -2,7 +2,9 @@
 
 ghost use Rattle.std.specs.Prelude.{◌≡◌, ◌-◌, ◌<◌, ◌≤◌, ℕ, None, false, length, take, drop};
 ghost use Rattle.wide_convert.specs.Readings.{PassesFault, PassesText, PassesWindow, SameText, end_after_fault, replacement_by};
-ghost use Rattle.wide_schemes.specs.Layouts.{StopsBefore};
+ghost use Rattle.wide_forms.specs.EncodingForm.{Utf16};
+ghost use Rattle.wide_unit.specs.CodePoints.{code_points};
+ghost use Rattle.wide_schemes.specs.Layouts.{StopsBefore, encoded};
 
 use crate::counts::item_count;
 use crate::reading::Reading;
@@ -61,6 +63,7 @@ fn pass_text(
     ensures written { result.written ≤ length units.new }
     ensures same { SameText reading.old reading.new }
     ensures passes { PassesText layout reading.old reading.new bytes.now is_last result.read (take result.written units.new) }
+    ensures spans { result.read ≡ length (encoded layout (code_points Utf16 (take result.written units.new))) }
     ensures state { reading.new.keeps ≡ false → reading.new.after_high ≡ false }
     ensures stop { StopsBefore layout reading.old.keeps reading.new.after_high (drop result.read bytes.now) is_last (length units.new - result.written) result.stop }
 {
