@@ -96,6 +96,18 @@ opened scheme keeps bs more (inr none) =
 pub kept-all : (kept input more : List ℕ) (n : ℕ) → kept ++ (input ++ more) ≡ (kept ++ take n input) ++ (drop n input ++ more)
 kept-all kept input more n = ap (λ xs. kept ++ (xs ++ more)) (sym (take-append-drop n input)) ∙ ap (λ xs. kept ++ xs) (append_assoc (take n input) (drop n input) more) ∙ sym (append_assoc kept (take n input) (drop n input ++ more))
 
+-- No units have no bytes.
+no-bytes : (layout' : Layout) → length (encoded layout' (code_points Utf16Form [])) ≡ 0
+no-bytes layout' = ap (λ is. length (encoded layout' (map code_of is))) (items-nil Utf16Form) ∙ none layout'
+  where
+    none : (l : Layout) → length (encoded l []) ≡ 0
+    none Utf8Layout = refl
+    none Wtf8Layout = refl
+    none (Utf16Layout Big) = refl
+    none (Utf16Layout Little) = refl
+    none (Utf32Layout Big) = refl
+    none (Utf32Layout Little) = refl
+
 module _ (r s : Reading) (input : List ℕ) (last : Bool) (read : ℕ) (ready : IsReading r) (closed : r.layout ≡ None)
     (least : read ≡ min (start_len r.scheme - r.unread_len) (length input)) (kept : unread_of s ≡ unread_of r ++ take read input) (len : s.unread_len ≡ r.unread_len + read) (same : SameButUnread r s) where
   -- All input was read, and is not enough to determine the layout.
@@ -117,8 +129,10 @@ module _ (r s : Reading) (input : List ℕ) (last : Bool) (read : ℕ) (ready : 
         };
         well_formed = λ k. IsWellFormed-nil Utf16Form;
         strict = λ k. no-codes;
-        starts = subst (λ l. StartsStep l s.layout r s input last) (sym closed) (subst (λ l. StartsStep None l r s input last) (sym still) (same.bom ∙ ready.no_bom closed));
-        spans = λ k layout open'. absurd (let e = sym still ∙ open' in cc);
+        kept = omega (arith, len);
+        starts = subst (λ l. StartsStep l s.layout r s input last read) (sym closed) (subst (λ l. StartsStep None l r s input last read) (sym still)
+          (record { no_bom = same.bom ∙ ready.no_bom closed; bytes = λ more. kept-all (unread_of r) input more read ∙ ap (λ xs. xs ++ (drop read input ++ more)) (sym kept) }));
+        spans = λ k layout may. omega (arith, no-bytes layout, len, same.bom);
         ends = (omega (arith, least, few, len), ((λ l. absurd (let e = not_last in cc)), λ l. subst (λ x. IsWaiting x s) (sym still) (subst (λ scheme. s.unread_len < start_len scheme) (sym same.scheme) few)));
       }
 
@@ -159,17 +173,6 @@ module _ (r s : Reading) (input : List ℕ) (last : Bool) (read : ℕ) (ready : 
         ∙ ap (λ scheme. bom_len scheme (unread_of s)) (sym same.scheme) ∙ sym (t-bom ∙ bom-is);
     }
 
-    no-bytes : (layout' : Layout) → length (encoded layout' (code_points Utf16Form [])) ≡ 0
-    no-bytes layout' = ap (λ is. length (encoded layout' (map code_of is))) (items-nil Utf16Form) ∙ none layout'
-      where
-        none : (l : Layout) → length (encoded l []) ≡ 0
-        none Utf8Layout = refl
-        none Wtf8Layout = refl
-        none (Utf16Layout Big) = refl
-        none (Utf16Layout Little) = refl
-        none (Utf32Layout Big) = refl
-        none (Utf32Layout Little) = refl
-
     pub opens : (room : ℕ) → Steps r t input last read [] room More
     opens room = record {
       passed = [];
@@ -183,7 +186,8 @@ module _ (r s : Reading) (input : List ℕ) (last : Bool) (read : ℕ) (ready : 
       };
       well_formed = λ k. IsWellFormed-nil Utf16Form;
       strict = λ k. no-codes;
-      starts = subst (λ l. StartsStep l t.layout r t input last) (sym closed) (subst (λ l. StartsStep None l r t input last) (sym open') start-known);
+      kept = omega (arith, len, t-len);
+      starts = subst (λ l. StartsStep l t.layout r t input last read) (sym closed) (subst (λ l. StartsStep None l r t input last read) (sym open') start-known);
       spans = λ k layout' e. omega (arith, no-bytes layout', ready.no_bom closed, t-bom, len, t-len, within);
       ends = subst (λ l. left_by l (t.unread_len + (length input - read)) < much_left r (length input)) (sym open') (subst (λ l. t.unread_len + (length input - read) < left_by l (r.unread_len + length input)) (sym closed) (omega (arith, t-len, len, least)));
     }

@@ -14,7 +14,7 @@ use Rattle.wide_convert.specs.declared.steps.StepEnd.TheVariants.{NeedsInput}
 use Rattle.wide_convert.specs.Steps.{IsWaiting}
 use Rattle.wide_convert.specs.Positions.{IsAfter}
 use Rattle.wide_convert.specs.Readings.{EndsWindow, PassesWindow, SameText, fault_of, len_of}
-use Rattle.wide_convert.specs.Steps.{EndsStep, IsOpen, SameButUnread, StartsStep, Steps, end_within, fault_at, len_at, items_after, items_left, much_left, left_by, unread_of}
+use Rattle.wide_convert.specs.Steps.{EndsStep, IsOpen, MayBe, SameButUnread, StartsStep, Steps, end_within, fault_at, len_at, items_after, items_left, much_left, left_by, unread_of}
 use Rattle.wide_convert.specs.declared.reading.Reading.{Reading}
 use Rattle.wide_convert.specs.declared.steps.StepEnd.{StepEnd}
 use Rattle.wide_convert.specs.declared.window.WindowEnd.{WindowEnd}
@@ -24,10 +24,13 @@ use Rattle.wide_convert.specs.declared.window.WindowEnd.TheVariants.{More, AtEnd
 module _ (layout : Layout) (r s t : Reading) (input window beyond : List ℕ) (last last_window : Bool) (n read : ℕ) (us : List ℕ) (room : ℕ) (end : WindowEnd) (end' : StepEnd)
     (known : r.layout ≡ Some layout) (passes : PassesWindow layout r s window last_window n us room end) (same : SameText r s) (kept : SameButUnread s t)
     (whole : (more : List ℕ) → unread_of r ++ (input ++ more) ≡ window ++ (beyond ++ more)) (rest : (more : List ℕ) → unread_of t ++ (drop read input ++ more) ≡ drop n window ++ (beyond ++ more))
-    (follow : (more : List ℕ) → MayFollow last more → MayFollow last_window (beyond ++ more)) (passed : r.unread_len + read - t.unread_len ≡ n) (fault-is : fault_at end' ≡ fault_of end) (len-is : len_at end' ≡ len_of end)
+    (follow : (more : List ℕ) → MayFollow last more → MayFollow last_window (beyond ++ more)) (passed : r.unread_len + read ≡ n + t.unread_len) (fault-is : fault_at end' ≡ fault_of end) (len-is : len_at end' ≡ len_of end)
     (ends : EndsStep r t input last read room end') where
   still : t.layout ≡ Some layout
   still = kept.layout ∙ same.layout ∙ known
+
+  consumed : n ≡ r.unread_len + read - t.unread_len
+  consumed = omega (arith, passed)
 
   pub window-steps : Steps r t input last read us room end'
   window-steps = record {
@@ -38,12 +41,13 @@ module _ (layout : Layout) (r s t : Reading) (input window beyond : List ℕ) (l
       ∙ ap (λ k. passes.passed ++ items_in layout k t.after_high (unread_of t ++ (drop read input ++ more))) (sym (kept.keeps ∙ same.keeps)) ∙ ap (λ l. passes.passed ++ items_after l t (unread_of t ++ (drop read input ++ more))) (sym still);
     text = passes.passes.text;
     fault = kept.after_fault ∙ passes.passes.fault;
-    moved = subst (λ k. IsAfter r.position t.position k passes.passed) (sym passed) (subst (λ p. IsAfter r.position p n passes.passed) (sym kept.position) passes.passes.moved);
+    moved = subst (λ k. IsAfter r.position t.position k passes.passed) consumed (subst (λ p. IsAfter r.position p n passes.passed) (sym kept.position) passes.passes.moved);
     well_formed = passes.passes.well_formed;
     strict = λ none. passes.strict none ∙ ap (λ is. map Char (code_points Utf16 us) ++ is) (sym fault-is);
-    starts = subst (λ l. StartsStep l t.layout r t input last) (sym known) (record { known = still; bom = kept.bom ∙ same.bom });
-    spans = λ none layout' open'.
-      let e : layout ≡ layout' = (let f = sym still ∙ open' in cc) in
+    kept = omega (arith, passed);
+    starts = subst (λ l. StartsStep l t.layout r t input last read) (sym known) (record { known = still; bom = kept.bom ∙ same.bom });
+    spans = λ none layout' may.
+      let e : layout ≡ layout' = subst (λ l. MayBe l layout') still may in
       subst (λ l. r.bom + (r.unread_len + read - t.unread_len) ≡ t.bom + (length (encoded l (code_points Utf16 us)) + len_at end')) e (omega (arith, passes.spans none, passed, kept.bom, same.bom, len-is));
     ends = ends;
   }
@@ -77,7 +81,7 @@ module _ (layout : Layout) (r s t : Reading) (input window : List ℕ) (last las
   within-ends AtEnd filled some ends = less (omega (arith, filled refl, ap length ends, length-drop n window))
   within-ends NoSpace filled some ends = (ends, no_more)
   within-ends Incomplete filled some ends = less (some refl)
-  within-ends (AtFault unit len) filled some ends = (ends.0, less ends.1)
+  within-ends (AtFault unit len) filled some ends = (ends.0, (layout, still))
 
 -- Bytes that are kept, and the first `m` of the input.
 kept-whole : (kept window input more : List ℕ) (m : ℕ) → window ≡ kept ++ take m input → kept ++ (input ++ more) ≡ window ++ (drop m input ++ more)

@@ -1,11 +1,14 @@
 -- A conversion of a text, piece by piece.
-use Rattle.std.specs.Prelude.{◌≡◌, ℕ, ◌+◌, ◌-◌, ◌*◌, ◌<◌, ◌≤◌, Bool, true, false, List, [], ◌∷◌, ◌++◌, drop, length, map, if◌then◌else◌, Option, None}
+use Rattle.std.specs.Prelude.{◌≡◌, ℕ, ◌+◌, ◌-◌, ◌*◌, ◌<◌, ◌≤◌, Bool, true, false, List, [], ◌∷◌, ◌++◌, drop, length, map, if◌then◌else◌, Option, Some, None}
+use Rattle.wide_forms.specs.Items.{characters}
 use Rattle.wide_forms.specs.Lossy.{ends_in_fault}
 use Rattle.wide_forms.specs.Segmentation.{Item, Char, Fault}
 use Rattle.wide_schemes.specs.Layouts.{MayFollow, encoded, needs_text}
 use Rattle.wide_schemes.specs.declared.layout.Layout.{Layout}
 use Rattle.wide_convert.specs.Positions.{IsAfter}
-use Rattle.wide_convert.specs.Steps.{IsReading, IsWaiting, SameKind, items_left, much_left}
+use Rattle.wide_convert.specs.declared.position.Position.{Position}
+use Rattle.wide_convert.specs.declared.converter.TextFault.{TextFault}
+use Rattle.wide_convert.specs.Steps.{IsWaiting, StartsStep, items_left}
 use Rattle.wide_convert.specs.Texts.{text_by}
 use Rattle.wide_convert.specs.declared.reading.Reading.{Reading}
 use Rattle.wide_convert.specs.declared.converter.ProgressEnd.{ProgressEnd}
@@ -21,8 +24,31 @@ fault_in NeedsInput = []
 fault_in NoSpace = []
 fault_in (AtFault fault) = Fault fault.unit ∷ []
 
--- Some items were passed, from one state to another, by reading the first `read` bytes of the input.
-pub record Feeds (old new : Reading) (input : List ℕ) (last : Bool) (read : ℕ) (passed : List Item) : Type 0 where
+-- The fault that was just passed, and has so many bytes.
+abbrev pub fault_before : Position → ℕ → ℕ → TextFault
+fault_before position unit len = record { offset = position.bytes - len; item = position.items - 1; unit = unit }
+
+-- The layout of a text is known, and the characters in it were passed whose bytes these are, and a fault of `len` bytes.
+pub record SpansFault (old new : Reading) (read : ℕ) (cs : List ℕ) (unit : ℕ) (fault : TextFault) : Type 0 where
+  pub layout : Layout
+  pub known : new.layout ≡ Some layout
+  pub len : ℕ
+  pub fault_is : fault ≡ fault_before new.position unit len
+  pub spans : old.bom + (old.unread_len + read - new.unread_len) ≡ new.bom + (length (encoded layout cs) + len)
+
+-- What a conversion stopped at, where `room` bytes of space are left.
+abbrev pub EndsFeed : Reading → Reading → List ℕ → Bool → ℕ → List Item → ℕ → ProgressEnd → Type 0
+EndsFeed old new input last read passed room NeedsInput = (read ≡ length input) × ((last ≡ true → items_left new [] ≡ []) × (last ≡ false → IsWaiting new.layout new))
+EndsFeed old new input last read passed room NoSpace = room < 8
+EndsFeed old new input last read passed room (AtFault fault) = (old.policy ≡ None) × SpansFault old new read (characters passed) fault.unit fault
+
+-- The first `read` bytes of the input were read and passed as these items, whose text was written in a layout.
+pub record Feeds (old new : Reading) (to : Layout) (input : List ℕ) (last : Bool) (read : ℕ) (written : List ℕ) (room : ℕ) (end : ProgressEnd) : Type 0 where
+  pub passed : List Item
   pub items : (more : List ℕ) → MayFollow last more → items_left old (input ++ more) ≡ passed ++ items_left new (drop read input ++ more)
+  pub text : written ≡ encoded to (text_by old.policy old.after_fault passed)
   pub fault : new.after_fault ≡ ends_in_fault old.after_fault passed
   pub moved : IsAfter old.position new.position (old.unread_len + read - new.unread_len) passed
+  pub strict : old.policy ≡ None → passed ≡ map Char (characters passed) ++ fault_in end
+  pub starts : StartsStep old.layout new.layout old new input last read
+  pub ends : EndsFeed old new input last read passed room end

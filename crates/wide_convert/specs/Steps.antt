@@ -88,23 +88,33 @@ pub record IsStart (old new : Reading) (input : List ℕ) (last : Bool) (layout 
   pub layout_is : (more : List ℕ) → MayFollow last more → layout_from old.scheme (unread_of old ++ (input ++ more)) ≡ layout
   pub bom_is : (more : List ℕ) → MayFollow last more → bom_len old.scheme (unread_of old ++ (input ++ more)) ≡ new.bom
 
+-- The layout is not determined, so all bytes are kept.
+pub record IsUnopened (old new : Reading) (input : List ℕ) (read : ℕ) : Type 0 where
+  pub no_bom : new.bom ≡ 0
+  pub bytes : (more : List ℕ) → unread_of old ++ (input ++ more) ≡ unread_of new ++ (drop read input ++ more)
+
 -- The layout of a text that was known stays the same, as does its BOM.
 pub record IsOpen (old new : Reading) (layout : Layout) : Type 0 where
   pub known : new.layout ≡ Some layout
   pub bom : new.bom ≡ old.bom
 
 -- What is known of the layout and of the BOM after a step.
-abbrev pub StartsStep : Option Layout → Option Layout → Reading → Reading → List ℕ → Bool → Type 0
-StartsStep None None old new input last = new.bom ≡ 0
-StartsStep None (Some layout) old new input last = IsStart old new input last layout
-StartsStep (Some layout) after old new input last = IsOpen old new layout
+abbrev pub StartsStep : Option Layout → Option Layout → Reading → Reading → List ℕ → Bool → ℕ → Type 0
+StartsStep None None old new input last read = IsUnopened old new input read
+StartsStep None (Some layout) old new input last read = IsStart old new input last layout
+StartsStep (Some layout) after old new input last read = IsOpen old new layout
+
+-- The layout is known to be this one, or is not known.
+abbrev pub MayBe : Option Layout → Layout → Type 0
+MayBe None layout = Unit {0}
+MayBe (Some known) layout = known ≡ layout
 
 -- What a step ended at, where `room` units of space are left.
 abbrev pub EndsStep : Reading → Reading → List ℕ → Bool → ℕ → ℕ → StepEnd → Type 0
 EndsStep old new input last read room More = much_left new (length input - read) < much_left old (length input)
 EndsStep old new input last read room NeedsInput = (read ≡ length input) × ((last ≡ true → items_left new [] ≡ []) × (last ≡ false → IsWaiting new.layout new))
 EndsStep old new input last read room NoSpace = (room < 2) × (much_left new (length input - read) ≤ much_left old (length input))
-EndsStep old new input last read room (AtFault unit len) = (old.policy ≡ None) × (much_left new (length input - read) < much_left old (length input))
+EndsStep old new input last read room (AtFault unit len) = (old.policy ≡ None) × ((layout : Layout) × (new.layout ≡ Some layout))
 
 -- A step read the first `read` bytes of the input, and passed these items, and `us` are the units of their text.
 pub record Steps (old new : Reading) (input : List ℕ) (last : Bool) (read : ℕ) (us : List ℕ) (room : ℕ) (end : StepEnd) : Type 0 where
@@ -115,8 +125,9 @@ pub record Steps (old new : Reading) (input : List ℕ) (last : Bool) (read : �
   pub moved : IsAfter old.position new.position (old.unread_len + read - new.unread_len) passed
   pub well_formed : old.keeps ≡ false → IsWellFormed Utf16 us
   pub strict : old.policy ≡ None → passed ≡ map Char (code_points Utf16 us) ++ fault_at end
-  pub starts : StartsStep old.layout new.layout old new input last
-  pub spans : old.policy ≡ None → (layout : Layout) → new.layout ≡ Some layout → old.bom + (old.unread_len + read - new.unread_len) ≡ new.bom + (length (encoded layout (code_points Utf16 us)) + len_at end)
+  pub kept : new.unread_len ≤ old.unread_len + read
+  pub starts : StartsStep old.layout new.layout old new input last read
+  pub spans : old.policy ≡ None → (layout : Layout) → MayBe new.layout layout → old.bom + (old.unread_len + read - new.unread_len) ≡ new.bom + (length (encoded layout (code_points Utf16 us)) + len_at end)
   pub ends : EndsStep old new input last read room end
 
 -- Why a step ended, where a window did, before the input did.

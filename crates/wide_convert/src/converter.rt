@@ -5,6 +5,8 @@ ghost use Rattle.wide_forms.specs.EncodingForm.{Utf16};
 ghost use Rattle.wide_forms.specs.Items.{IsWellFormed};
 ghost use Rattle.wide_unit.specs.CodePoints.{code_points};
 ghost use Rattle.wide_schemes.specs.Layouts.{encoded, needs_text};
+ghost use Rattle.wide_convert.specs.Converting.{Feeds, fault_before};
+ghost use Rattle.wide_convert.specs.Steps.{IsReading, SameKind};
 
 use crate::position::Position;
 use crate::reading::Reading;
@@ -47,6 +49,7 @@ fn put_text(layout: Layout, units: &[u16], out: &mut [u8]) -> usize
     requires well_formed { needs_text layout ≡ true → IsWellFormed Utf16 units.now }
     ensures text { take result out.new ≡ encoded layout (code_points Utf16 units.now) }
     ensures within { result ≤ length out.new }
+    ensures some { 0 < length units.now → 0 < result }
 {
     if 4 * units.len() + BEYOND_TEXT <= out.len() {
         return encode(layout, units, out);
@@ -66,8 +69,6 @@ pub struct TextFault {
     pub item: u64,
     /// The ill-formed unit, or, if units are bytes, the first byte or the surrogate.
     pub unit: u32,
-    /// How many bytes it has.
-    pub len: usize,
 }
 
 /// Why a converter stopped.
@@ -101,4 +102,61 @@ pub struct Converter {
     to: Layout,
     // Whether a BOM has to be written.
     bom: bool,
+}
+
+// Returns the fault that was just passed, and has so many bytes.
+fn fault_before(position: Position, unit: u32, len: usize) -> TextFault
+    ensures { result ≡ fault_before position unit len }
+{
+    TextFault {
+        offset: position.bytes.saturating_sub(len as u64),
+        item: position.items.saturating_sub(1),
+        unit,
+    }
+}
+
+// Reads input, and writes the text of what was read in the layout.
+fn feed(
+    reading: &mut Reading,
+    to: Layout,
+    input: &[u8],
+    is_last: bool,
+    out: &mut [u8],
+) -> ConvertProgress
+    requires ready { IsReading reading.old }
+    requires text { needs_text to ≡ true → reading.old.keeps ≡ false }
+    ensures read { result.read ≤ length input.now }
+    ensures written { result.written ≤ length out.new }
+    ensures ready { IsReading reading.new }
+    ensures same { SameKind reading.old reading.new }
+    ensures fed { Feeds reading.old reading.new to input.now is_last result.read (take result.written out.new) (length out.new - result.written) result.end }
+{
+    let mut pivot = [0u16; PIVOT_UNITS];
+    let mut read = 0;
+    let mut written = 0;
+    while out.len() - written >= LEAST_SPACE {
+        let space = pivot_len(out.len() - written);
+        let step = read_step(reading, &input[read..], is_last, &mut pivot[..space]);
+        read += step.read;
+        written += put_text(to, &pivot[..step.written], &mut out[written..]);
+        if let StepEnd::NeedsInput = step.end {
+            return ConvertProgress {
+                read,
+                written,
+                end: ProgressEnd::NeedsInput,
+            };
+        }
+        if let StepEnd::Fault { unit, len } = step.end {
+            return ConvertProgress {
+                read,
+                written,
+                end: ProgressEnd::Fault(fault_before(reading.position, unit, len)),
+            };
+        }
+    }
+    ConvertProgress {
+        read,
+        written,
+        end: ProgressEnd::NoSpace,
+    }
 }
