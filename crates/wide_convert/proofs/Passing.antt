@@ -77,7 +77,7 @@ well-replaced : (us ts : List ℕ) → (ts ≡ []) ⊎ (ts ≡ 0xFFFD ∷ []) �
 well-replaced us ts (inl none) well = subst (IsWellFormed Utf16) (sym (ap (λ xs. us ++ xs) none ∙ append-nil us)) well
 well-replaced us ts (inr one) well = subst (λ xs. IsWellFormed Utf16 (us ++ xs)) (sym one) (IsWellFormed-append Utf16 us (0xFFFD ∷ []) well (IsWellFormed-code_units Utf16 0xFFFD replacement-scalar))
 
-counted-twice : (a b c n m : ℕ) → b ≡ counted a n → c ≡ counted b m → c ≡ counted a (n + m)
+pub counted-twice : (a b c n m : ℕ) → b ≡ counted a n → c ≡ counted b m → c ≡ counted a (n + m)
 counted-twice a b c n m one other = omega (arith, one, other)
 
 module _ (layout : Layout) (r s t : Reading) (bytes : List ℕ) (last : Bool) (n len unit : ℕ) (us vs : List ℕ)
