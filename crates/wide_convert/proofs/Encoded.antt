@@ -1,12 +1,12 @@
 -- The bytes of code points in a layout.
-use Rattle.std.proofs.Common.{◌≡◌, inl, inr, ℕ, ◌+◌, ◌<◌, ◌≤◌, List, [], ◌∷◌, ◌++◌, length, length-append, map, refl, sym, ap, ◌∙◌, arith}
+use Rattle.std.proofs.Common.{◌≡◌, ℕ, ◌<◌, List, [], ◌∷◌, ◌++◌, length, length-append, map, refl, sym, ap, ◌∙◌, arith}
 use Rattle.std.proofs.lemmas.List.Concat.{flat_map-append}
 use Rattle.wide_forms.specs.EncodingForm.{Utf16 as Utf16Form, Utf32 as Utf32Form, code_units, encode}
 use Rattle.wide_forms.specs.Items.{items}
 use Rattle.wide_forms.specs.Segmentation.{Item, units_of}
 use Rattle.wide_forms.specs.UnitBytes.{big_bytes, little_bytes}
 use Rattle.wide_forms.specs.Utf8.{utf8, utf8_bytes}
-use Rattle.wide_forms.specs.Laws.Forms.{code_units-cases, some_units}
+use Rattle.wide_forms.specs.Laws.Forms.{some_units}
 use Rattle.wide_forms.specs.Laws.Items.{units_of-items}
 use Rattle.wide_forms.specs.Laws.Utf8.{utf8_bytes-encode_utf8}
 use Rattle.std.proofs.lemmas.Str.{len_utf8_bounds, length-encode}

@@ -1,26 +1,30 @@
 -- A text that is read step by step, and the bytes that are written of it.
-use Rattle.std.proofs.Common.{◌≡◌, inl, inr, ℕ, ◌+◌, ◌-◌, ◌^◌, ◌<◌, ◌≤◌, List, [], ◌∷◌, ◌++◌, Bool, true, false, length, length-append, length-drop, take, drop, map, refl, sym, ap, ◌∙◌, subst, arith, append_assoc}
-use Rattle.std.specs.Prelude.{Option, Some, None, min}
+use Rattle.std.proofs.Common.{◌≡◌, ℕ, ◌+◌, ◌-◌, ◌<◌, ◌≤◌, List, [], ◌∷◌, ◌++◌, Bool, true, false, length, length-append, drop, map, refl, sym, ap, ◌∙◌, subst, arith, append_assoc}
+use Rattle.std.specs.Prelude.{Option, Some, None}
 use Rattle.std.proofs.lemmas.List.{append-nil, drop-drop, map-append}
 use Rattle.wide_forms.specs.EncodingForm.{Utf16}
-use Rattle.wide_forms.specs.Items.{characters}
+use Rattle.std.specs.Char.{IsScalar}
+use Rattle.wide_forms.specs.Items.{IsWellFormed, characters}
+use Rattle.wide_forms.specs.Laws.Ends.{IsWellFormed-code_units}
+use Rattle.wide_forms.specs.Laws.Forms.{scalar_from}
+use Rattle.wide_forms.specs.Laws.Items.{items-code_units}
 use Rattle.wide_forms.specs.Lossy.{ends_in_fault}
 use Rattle.wide_forms.specs.Segmentation.{Item, Char, Fault}
 use Rattle.wide_forms.specs.declared.policy.Policy.{Policy}
 use Rattle.wide_forms.specs.declared.policy.Policy.TheVariants.{Each, Run, Skip}
 use Rattle.wide_forms.specs.Laws.Offsets.{characters-chars}
 use Rattle.wide_forms.specs.Laws.Policies.{characters-append, ends_in_fault-append}
-use Rattle.wide_unit.specs.CodePoints.{code_points}
+use Rattle.wide_unit.specs.CodePoints.{code_of, code_points}
 use Rattle.wide_schemes.specs.Layouts.{MayFollow, encoded}
 use Rattle.wide_schemes.specs.Schemes.{bom_len, layout_from}
 use Rattle.wide_schemes.specs.declared.layout.Layout.{Layout}
 use Rattle.wide_convert.specs.Positions.{IsAfter, counted}
-use Rattle.wide_convert.specs.Steps.{IsOpen, IsReading, IsStart, IsUnopened, IsWaiting, MayBe, SameKind, StartsStep, Steps, fault_at, items_left, len_at, unread_of}
+use Rattle.wide_convert.specs.Steps.{IsReading, IsWaiting, MayBe, SameKind, StartsStep, Steps, fault_at, items_left, len_at, unread_of}
 use Rattle.wide_convert.specs.Texts.{faults_in, text_by}
 use Rattle.wide_convert.specs.declared.reading.Reading.{Reading}
 use Rattle.wide_convert.specs.declared.steps.StepEnd.{StepEnd}
 use Rattle.wide_convert.specs.declared.steps.StepEnd.TheVariants.{More, NeedsInput, NoSpace, Fault as AtFault}
-use Rattle.wide_convert.specs.Converting.{EndsFeed, Feeds, SpansFault, fault_before, fault_in}
+use Rattle.wide_convert.specs.Converting.{EndsFeed, Feeds, Pushes, bom_bytes, fault_before, fault_in}
 use Rattle.wide_convert.specs.declared.converter.TextFault.{TextFault}
 use Rattle.wide_convert.specs.declared.converter.ProgressEnd.{ProgressEnd}
 use Rattle.wide_convert.specs.declared.converter.ProgressEnd.TheVariants.{NeedsInput as FeedNeedsInput, NoSpace as FeedNoSpace, Fault as FeedFault}
@@ -202,11 +206,57 @@ pub feeds-fault : (r t : Reading) (to : Layout) (input : List ℕ) (last : Bool)
     → Feeds r t to input last read written room (FeedFault fault)
 feeds-fault r t to input last read written room unit len so_far none layout known fault is =
     let same-unit : fault.unit ≡ unit = ap (λ f. f.unit) is in
-    feeds-by r t to input last read written room (Fault unit ∷ []) len (FeedFault fault) so_far (ap (λ u. Fault u ∷ []) (sym same-unit))
-      (none, record {
+    feeds-by r t to input last read written room (Fault unit ∷ []) len (FeedFault fault) so_far (ap (λ u. Fault u ∷ []) (sym same-unit)) (
+      none,
+      record {
         layout = layout;
         known = known;
         len = len;
         fault_is = is ∙ ap (λ u. fault_before t.position u len) (sym same-unit);
         spans = so_far.spans none layout (subst (λ l. MayBe l layout) (sym known) refl);
-      })
+      },
+    )
+
+-- ---- converters
+
+-- A converter wrote its BOM, and the text of what it read.
+pub pushes-of : (r t : Reading) (to : Layout) (bom : Bool) (input : List ℕ) (last : Bool) (read : ℕ) (written after : List ℕ) (room room' : ℕ) (end : ProgressEnd) → Feeds r t to input last read after room end → room ≡ room' → SameKind r t → bom_bytes to bom ++ after ≡ written
+    → Pushes (record { reading = r; to = to; bom = bom }) (record { reading = t; to = to; bom = false }) input last read written room' end
+pushes-of r t to bom input last read written after room room' end feeds same-room same joined = record {
+  passed = feeds.passed;
+  items = feeds.items;
+  text = ap (λ xs. bom_bytes to bom ++ xs) (sym feeds.text) ∙ joined ∙ sym (append-nil written);
+  fault = feeds.fault;
+  moved = feeds.moved;
+  strict = feeds.strict;
+  starts = feeds.starts;
+  same = same;
+  to = refl;
+  ends = subst (λ n. EndsFeed r t input last read feeds.passed n end) same-room feeds.ends;
+}
+
+-- A converter did nothing for want of space.
+pub pushes-none : (r : Reading) (to : Layout) (bom : Bool) (input : List ℕ) (last : Bool) (room : ℕ) → IsReading r → room < 8 → Pushes (record { reading = r; to = to; bom = bom }) (record { reading = r; to = to; bom = bom }) input last 0 [] room FeedNoSpace
+pushes-none r to bom input last room ready full =
+    let feeds = feeds-space r r to input last 0 [] room (so_far-none r to input last ready) full in
+    record {
+      passed = feeds.passed;
+      items = feeds.items;
+      text = ap (λ xs. bom_bytes to bom ++ xs) (sym feeds.text) ∙ append-nil (bom_bytes to bom);
+      fault = feeds.fault;
+      moved = feeds.moved;
+      strict = feeds.strict;
+      starts = feeds.starts;
+      same = record { scheme = refl; keeps = refl; policy = refl };
+      to = refl;
+      ends = feeds.ends;
+    }
+
+mark-scalar : IsScalar 0xFEFF
+mark-scalar = scalar_from 0xFEFF (record { below = omega arith; no_surrogate = λ from. omega arith })
+
+pub bom-well : IsWellFormed Utf16 (0xFEFF ∷ [])
+bom-well = IsWellFormed-code_units Utf16 0xFEFF mark-scalar
+
+pub bom-codes : code_points Utf16 (0xFEFF ∷ []) ≡ 0xFEFF ∷ []
+bom-codes = ap (map code_of) (items-code_units Utf16 0xFEFF mark-scalar)

@@ -1,21 +1,20 @@
 -- The beginning of a text: bytes that are kept, the layout that they determine, and a BOM.
-use Rattle.std.proofs.Common.{◌≡◌, ◌⊎◌, inl, inr, ℕ, ◌+◌, ◌-◌, ◌*◌, ◌^◌, ◌<◌, ◌≤◌, List, [], ◌∷◌, ◌++◌, Bool, true, false, length, length-append, length-drop, length-take, take, drop, map, refl, sym, ap, ◌∙◌, subst, arith, append_assoc}
-use Rattle.std.specs.Prelude.{Option, Some, None, min, is_some, if◌then◌else◌, nat_eq, unwrap_or}
+use Rattle.std.proofs.Common.{◌≡◌, ◌⊎◌, inl, inr, ℕ, ◌+◌, ◌-◌, ◌^◌, ◌<◌, ◌≤◌, List, [], ◌∷◌, ◌++◌, Bool, true, false, length, length-drop, take, drop, map, refl, sym, ap, ◌∙◌, subst, arith, append_assoc}
+use Rattle.std.specs.Prelude.{Option, Some, None, min}
 use Rattle.std.proofs.lemmas.Bool.{cases_Bool, cases_lt}
 use Rattle.std.proofs.lemmas.Bool.Decides.{nat_tests}
 use Rattle.std.proofs.lemmas.List.{append-nil, drop-append-le, nil_from_length, take-append-drop}
 use Rattle.wide_forms.specs.EncodingForm.{Utf16 as Utf16Form}
-use Rattle.wide_forms.specs.Segmentation.{Item, Char}
+use Rattle.wide_forms.specs.Segmentation.{Char}
 use Rattle.wide_forms.specs.declared.policy.Policy.{Policy}
 use Rattle.wide_forms.specs.declared.policy.Policy.TheVariants.{Each, Run, Skip}
 use Rattle.wide_forms.specs.Laws.Items.{items-nil}
 use Rattle.wide_unit.specs.CodePoints.{code_of, code_points}
-use Rattle.wide_bytes.specs.Bytes.{bom_of}
 use Rattle.wide_schemes.specs.Layouts.{MayFollow, encoded, items_in}
-use Rattle.wide_schemes.specs.Schemes.{bom32_of, bom_len, items_from, layout_from, start_len}
+use Rattle.wide_schemes.specs.Schemes.{bom_len, items_from, layout_from, start_len}
 use Rattle.wide_schemes.specs.declared.scheme.Scheme.{Scheme}
 use Rattle.wide_schemes.specs.declared.scheme.Scheme.TheVariants.{Utf8, Wtf8, Utf16Le, Utf16Be, Utf16, Utf32Le, Utf32Be, Utf32}
-use Rattle.wide_convert.specs.Positions.{IsAfter, IsPosition, counted}
+use Rattle.wide_convert.specs.Positions.{counted}
 use Rattle.wide_convert.specs.Steps.{IsReading, IsStart, IsWaiting, StartsStep, SameButUnread, Steps, items_after, items_left, left_by, much_left, unread_of}
 use Rattle.wide_convert.specs.declared.steps.StepEnd.TheVariants.{More, NeedsInput}
 use Rattle.wide_forms.specs.Laws.Splices.{IsWellFormed-nil}
@@ -117,9 +116,9 @@ module _ (r s : Reading) (input : List ℕ) (last : Bool) (read : ℕ) (ready : 
       record {
         passed = [];
         items = λ more may.
-          ap (λ l. items_after l r (unread_of r ++ (input ++ more))) closed ∙ ap (items_from r.scheme r.keeps) (kept-all (unread_of r) input more read ∙ ap (λ xs. xs ++ (drop read input ++ more)) (sym kept))
-          ∙ ap (λ scheme. items_from scheme r.keeps (unread_of s ++ (drop read input ++ more))) (sym same.scheme) ∙ ap (λ keeps. items_from s.scheme keeps (unread_of s ++ (drop read input ++ more))) (sym same.keeps)
-          ∙ ap (λ l. items_after l s (unread_of s ++ (drop read input ++ more))) (sym still);
+            ap (λ l. items_after l r (unread_of r ++ (input ++ more))) closed ∙ ap (items_from r.scheme r.keeps) (kept-all (unread_of r) input more read ∙ ap (λ xs. xs ++ (drop read input ++ more)) (sym kept))
+            ∙ ap (λ scheme. items_from scheme r.keeps (unread_of s ++ (drop read input ++ more))) (sym same.scheme) ∙ ap (λ keeps. items_from s.scheme keeps (unread_of s ++ (drop read input ++ more))) (sym same.keeps)
+            ∙ ap (λ l. items_after l s (unread_of s ++ (drop read input ++ more))) (sym still);
         text = no-text r.policy r.after_fault;
         fault = same.after_fault;
         moved = record {
@@ -131,7 +130,7 @@ module _ (r s : Reading) (input : List ℕ) (last : Bool) (read : ℕ) (ready : 
         strict = λ k. no-codes;
         kept = omega (arith, len);
         starts = subst (λ l. StartsStep l s.layout r s input last read) (sym closed) (subst (λ l. StartsStep None l r s input last read) (sym still)
-          (record { no_bom = same.bom ∙ ready.no_bom closed; bytes = λ more. kept-all (unread_of r) input more read ∙ ap (λ xs. xs ++ (drop read input ++ more)) (sym kept) }));
+            (record { no_bom = same.bom ∙ ready.no_bom closed; bytes = λ more. kept-all (unread_of r) input more read ∙ ap (λ xs. xs ++ (drop read input ++ more)) (sym kept) }));
         spans = λ k layout may. omega (arith, no-bytes layout, len, same.bom);
         ends = (omega (arith, least, few, len), ((λ l. absurd (let e = not_last in cc)), λ l. subst (λ x. IsWaiting x s) (sym still) (subst (λ scheme. s.unread_len < start_len scheme) (sym same.scheme) few)));
       }
@@ -166,11 +165,11 @@ module _ (r s : Reading) (input : List ℕ) (last : Bool) (read : ℕ) (ready : 
     start-known : IsStart r t input last layout
     start-known = record {
       layout_is = λ more may.
-        ap (layout_from r.scheme) (kept-all (unread_of r) input more read ∙ ap (λ xs. xs ++ (drop read input ++ more)) (sym kept)) ∙ (known-or r.scheme (unread_of s) (drop read input ++ more) (rest-known more may)).layout
-        ∙ ap (λ scheme. layout_from scheme (unread_of s)) (sym same.scheme) ∙ sym layout-is;
+          ap (layout_from r.scheme) (kept-all (unread_of r) input more read ∙ ap (λ xs. xs ++ (drop read input ++ more)) (sym kept)) ∙ (known-or r.scheme (unread_of s) (drop read input ++ more) (rest-known more may)).layout
+          ∙ ap (λ scheme. layout_from scheme (unread_of s)) (sym same.scheme) ∙ sym layout-is;
       bom_is = λ more may.
-        ap (bom_len r.scheme) (kept-all (unread_of r) input more read ∙ ap (λ xs. xs ++ (drop read input ++ more)) (sym kept)) ∙ (known-or r.scheme (unread_of s) (drop read input ++ more) (rest-known more may)).bom
-        ∙ ap (λ scheme. bom_len scheme (unread_of s)) (sym same.scheme) ∙ sym (t-bom ∙ bom-is);
+          ap (bom_len r.scheme) (kept-all (unread_of r) input more read ∙ ap (λ xs. xs ++ (drop read input ++ more)) (sym kept)) ∙ (known-or r.scheme (unread_of s) (drop read input ++ more) (rest-known more may)).bom
+          ∙ ap (λ scheme. bom_len scheme (unread_of s)) (sym same.scheme) ∙ sym (t-bom ∙ bom-is);
     }
 
     pub opens : (room : ℕ) → Steps r t input last read [] room More

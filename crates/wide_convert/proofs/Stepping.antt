@@ -1,10 +1,10 @@
 -- A step of reading a text, by what decoding a window did.
-use Rattle.std.proofs.Common.{inl, inr, ◌≡◌, ℕ, ◌+◌, ◌-◌, ◌<◌, ◌≤◌, List, [], ◌∷◌, ◌++◌, Bool, true, false, length, length-append, length-drop, length-take, take, drop, map, refl, sym, ap, ◌∙◌, subst, arith, append_assoc}
-use Rattle.std.specs.Prelude.{Option, Some, None, min, ◌⊎◌, IsTrue}
-use Rattle.std.proofs.lemmas.List.{append-nil, drop-append-le, drop-drop, drop-take, nil_from_length, take-append-drop}
+use Rattle.std.proofs.Common.{inl, inr, ◌≡◌, ℕ, ◌+◌, ◌-◌, ◌<◌, ◌≤◌, List, [], ◌++◌, Bool, true, length, length-append, length-drop, length-take, take, drop, map, refl, sym, ap, ◌∙◌, subst, arith, append_assoc}
+use Rattle.std.specs.Prelude.{Some, IsTrue}
+use Rattle.std.proofs.lemmas.List.{drop-append-le, nil_from_length, take-append-drop}
 use Rattle.std.proofs.Math.Seq.{drop-append-add}
 use Rattle.wide_forms.specs.EncodingForm.{Utf16}
-use Rattle.wide_forms.specs.Segmentation.{Item, Char, Fault}
+use Rattle.wide_forms.specs.Segmentation.{Char}
 use Rattle.wide_unit.specs.CodePoints.{code_points}
 use Rattle.wide_schemes.specs.Layouts.{MayFollow, encoded, items_in}
 use Rattle.std.proofs.lemmas.Bool.{cases_lt}
@@ -14,7 +14,7 @@ use Rattle.wide_convert.specs.declared.steps.StepEnd.TheVariants.{NeedsInput}
 use Rattle.wide_convert.specs.Steps.{IsWaiting}
 use Rattle.wide_convert.specs.Positions.{IsAfter}
 use Rattle.wide_convert.specs.Readings.{EndsWindow, PassesWindow, SameText, fault_of, len_of}
-use Rattle.wide_convert.specs.Steps.{EndsStep, IsOpen, MayBe, SameButUnread, StartsStep, Steps, end_within, fault_at, len_at, items_after, items_left, much_left, left_by, unread_of}
+use Rattle.wide_convert.specs.Steps.{EndsStep, MayBe, SameButUnread, StartsStep, Steps, end_within, fault_at, len_at, items_after, much_left, left_by, unread_of}
 use Rattle.wide_convert.specs.declared.reading.Reading.{Reading}
 use Rattle.wide_convert.specs.declared.steps.StepEnd.{StepEnd}
 use Rattle.wide_convert.specs.declared.window.WindowEnd.{WindowEnd}
@@ -36,9 +36,9 @@ module _ (layout : Layout) (r s t : Reading) (input window beyond : List ℕ) (l
   window-steps = record {
     passed = passes.passed;
     items = λ more may.
-      ap (λ l. items_after l r (unread_of r ++ (input ++ more))) known ∙ ap (items_in layout r.keeps r.after_high) (whole more) ∙ passes.passes.items (beyond ++ more) (follow more may)
-      ∙ ap (λ xs. passes.passed ++ items_in layout r.keeps s.after_high xs) (sym (rest more)) ∙ ap (λ h. passes.passed ++ items_in layout r.keeps h (unread_of t ++ (drop read input ++ more))) (sym kept.after_high)
-      ∙ ap (λ k. passes.passed ++ items_in layout k t.after_high (unread_of t ++ (drop read input ++ more))) (sym (kept.keeps ∙ same.keeps)) ∙ ap (λ l. passes.passed ++ items_after l t (unread_of t ++ (drop read input ++ more))) (sym still);
+        ap (λ l. items_after l r (unread_of r ++ (input ++ more))) known ∙ ap (items_in layout r.keeps r.after_high) (whole more) ∙ passes.passes.items (beyond ++ more) (follow more may)
+        ∙ ap (λ xs. passes.passed ++ items_in layout r.keeps s.after_high xs) (sym (rest more)) ∙ ap (λ h. passes.passed ++ items_in layout r.keeps h (unread_of t ++ (drop read input ++ more))) (sym kept.after_high)
+        ∙ ap (λ k. passes.passed ++ items_in layout k t.after_high (unread_of t ++ (drop read input ++ more))) (sym (kept.keeps ∙ same.keeps)) ∙ ap (λ l. passes.passed ++ items_after l t (unread_of t ++ (drop read input ++ more))) (sym still);
     text = passes.passes.text;
     fault = kept.after_fault ∙ passes.passes.fault;
     moved = subst (λ k. IsAfter r.position t.position k passes.passed) consumed (subst (λ p. IsAfter r.position p n passes.passed) (sym kept.position) passes.passes.moved);
@@ -47,8 +47,8 @@ module _ (layout : Layout) (r s t : Reading) (input window beyond : List ℕ) (l
     kept = omega (arith, passed);
     starts = subst (λ l. StartsStep l t.layout r t input last read) (sym known) (record { known = still; bom = kept.bom ∙ same.bom });
     spans = λ none layout' may.
-      let e : layout ≡ layout' = subst (λ l. MayBe l layout') still may in
-      subst (λ l. r.bom + (r.unread_len + read - t.unread_len) ≡ t.bom + (length (encoded l (code_points Utf16 us)) + len_at end')) e (omega (arith, passes.spans none, passed, kept.bom, same.bom, len-is));
+        let e : layout ≡ layout' = subst (λ l. MayBe l layout') still may in
+        subst (λ l. r.bom + (r.unread_len + read - t.unread_len) ≡ t.bom + (length (encoded l (code_points Utf16 us)) + len_at end')) e (omega (arith, passes.spans none, passed, kept.bom, same.bom, len-is));
     ends = ends;
   }
 
@@ -124,10 +124,10 @@ module _ (layout : Layout) (r s t : Reading) (input window : List ℕ) (last las
   keeps-some fewer other t-unread t-len =
       let s-len = same.unread_len in
       window-steps layout r s t input window (drop m input) last last_window n 0 us room end (end_within end) known passes same kept
-        (λ more. kept-whole (unread_of r) window input more m window-is)
-        (λ more. ap (λ xs. xs ++ (input ++ more)) (t-unread ∙ ap (drop n) same-unread) ∙ kept-rest (unread_of r) window input more m n window-is (omega (arith, fewer, kept-len)))
-        (λ more may. none-may input more m last last_window given may) (omega (arith, t-len, s-len, fewer)) (fault-within end) (len-within end)
-        (within-ends layout r s t input window last last_window n 0 room known t-known (omega (arith, t-len, s-len, fewer)) (omega arith) end (λ e. filled) (λ e. absurd (other e)) passes.ends)
+      (λ more. kept-whole (unread_of r) window input more m window-is)
+      (λ more. ap (λ xs. xs ++ (input ++ more)) (t-unread ∙ ap (drop n) same-unread) ∙ kept-rest (unread_of r) window input more m n window-is (omega (arith, fewer, kept-len)))
+      (λ more may. none-may input more m last last_window given may) (omega (arith, t-len, s-len, fewer)) (fault-within end) (len-within end)
+      (within-ends layout r s t input window last last_window n 0 room known t-known (omega (arith, t-len, s-len, fewer)) (omega arith) end (λ e. filled) (λ e. absurd (other e)) passes.ends)
 
   -- All bytes that were kept were read.
   pub keeps-none : r.unread_len ≤ n → unread_of t ≡ drop r.unread_len (unread_of s) → t.unread_len ≡ s.unread_len - r.unread_len → Steps r t input last (n - r.unread_len) us room (end_within end)
@@ -136,10 +136,10 @@ module _ (layout : Layout) (r s t : Reading) (input window : List ℕ) (last las
       let none : unread_of t ≡ [] = t-unread ∙ ap (drop r.unread_len) same-unread ∙ nil_from_length (drop r.unread_len (unread_of r)) (omega (arith, length-drop r.unread_len (unread_of r), kept-len)) in
       let long : length window ≡ r.unread_len + m = omega (arith, ap length window-is, length-append (unread_of r) (take m input), kept-len, length-take m input, few) in
       window-steps layout r s t input window (drop m input) last last_window n (n - r.unread_len) us room end (end_within end) known passes same kept
-        (λ more. kept-whole (unread_of r) window input more m window-is)
-        (λ more. ap (λ xs. xs ++ (drop (n - r.unread_len) input ++ more)) none ∙ ap (λ k. drop (n - k) input ++ more) (sym kept-len) ∙ read-rest (unread_of r) window input more m n window-is few (omega (arith, all, kept-len)) within)
-        (λ more may. none-may input more m last last_window given may) (omega (arith, t-len, s-len, all)) (fault-within end) (len-within end)
-        (within-ends layout r s t input window last last_window n (n - r.unread_len) room known t-known (omega (arith, t-len, s-len, all)) (omega (arith, within, long, few)) end (λ e. filled) (λ e. omega (arith, all, some)) passes.ends)
+      (λ more. kept-whole (unread_of r) window input more m window-is)
+      (λ more. ap (λ xs. xs ++ (drop (n - r.unread_len) input ++ more)) none ∙ ap (λ k. drop (n - k) input ++ more) (sym kept-len) ∙ read-rest (unread_of r) window input more m n window-is few (omega (arith, all, kept-len)) within)
+      (λ more may. none-may input more m last last_window given may) (omega (arith, t-len, s-len, all)) (fault-within end) (len-within end)
+      (within-ends layout r s t input window last last_window n (n - r.unread_len) room known t-known (omega (arith, t-len, s-len, all)) (omega (arith, within, long, few)) end (λ e. filled) (λ e. omega (arith, all, some)) passes.ends)
 
 -- A step over the first bytes of the input, where none are kept.
 module _ (layout : Layout) (r s : Reading) (input : List ℕ) (last last_window : Bool) (m n : ℕ) (us : List ℕ) (room : ℕ) (end : WindowEnd) (end' : StepEnd)
@@ -161,9 +161,9 @@ module _ (layout : Layout) (r s : Reading) (input : List ℕ) (last last_window 
   steps-by : (end'' : StepEnd) → fault_at end'' ≡ fault_of end → len_at end'' ≡ len_of end → EndsStep r s input last n room end'' → Steps r s input last n us room end''
   steps-by end'' fault-is len-is ends =
       window-steps layout r s s input (take m input) (drop m input) last last_window n n us room end end'' known passes same kept-none
-        (λ more. ap (λ xs. xs ++ (input ++ more)) (none-of r empty) ∙ kept-whole [] (take m input) input more m refl)
-        (λ more. ap (λ xs. xs ++ (drop n input ++ more)) (none-of s s-empty) ∙ ap (λ k. drop k input ++ more) (omega arith) ∙ read-rest [] (take m input) input more m n refl few (omega arith) within)
-        (λ more may. none-may input more m last last_window given may) (omega (arith, empty, s-empty)) fault-is len-is ends
+      (λ more. ap (λ xs. xs ++ (input ++ more)) (none-of r empty) ∙ kept-whole [] (take m input) input more m refl)
+      (λ more. ap (λ xs. xs ++ (drop n input ++ more)) (none-of s s-empty) ∙ ap (λ k. drop k input ++ more) (omega arith) ∙ read-rest [] (take m input) input more m n refl few (omega arith) within)
+      (λ more may. none-may input more m last last_window given may) (omega (arith, empty, s-empty)) fault-is len-is ends
 
   incomplete-some : end ≡ Incomplete → 0 < n
   incomplete-some e = elim (cases_lt m (length input)) [
@@ -174,16 +174,19 @@ module _ (layout : Layout) (r s : Reading) (input : List ℕ) (last last_window 
   other-steps : (length input - m ≡ 0 → end ≡ AtEnd → ⊥) → Steps r s input last n us room (end_within end)
   other-steps other =
       steps-by (end_within end) (fault-within end) (len-within end)
-        (within-ends layout r s s input (take m input) last last_window n n room known s-known (omega (arith, empty, s-empty)) (omega (arith, within, length-take m input)) end
-          (λ e. elim (cases_lt m (length input)) [ | inl cut ↦ omega (arith, least cut, length-take m input, few) | inr all ↦ absurd (other (omega (arith, all)) e) ]) incomplete-some passes.ends)
+      (within-ends layout r s s input (take m input) last last_window n n room known s-known (omega (arith, empty, s-empty)) (omega (arith, within, length-take m input)) end
+      (λ e. elim (cases_lt m (length input)) [ inl cut ↦ omega (arith, least cut, length-take m input, few) | inr all ↦ absurd (other (omega (arith, all)) e) ]) incomplete-some passes.ends)
 
   done-steps : length input - m ≡ 0 → end ≡ AtEnd → Steps r s input last n us room NeedsInput
   done-steps all e =
       let rest = subst (EndsWindow layout r s (drop n (take m input)) last_window n room) e passes.ends in
-      steps-by NeedsInput (ap fault_of (sym e)) (ap len_of (sym e))
-        (omega (arith, ap length rest, length-drop n (take m input), length-take m input, all, few, within),
-          ((λ l. ap (λ x. items_after x s (unread_of s ++ [])) s-known ∙ ap (λ xs. items_in layout s.keeps s.after_high (xs ++ [])) (none-of s s-empty) ∙ items-none layout s.keeps s.after_high),
-            (λ l. subst (λ x. IsWaiting x s) (sym s-known) (λ some. absurd (omega (arith, some, s-empty))))))
+      steps-by NeedsInput (ap fault_of (sym e)) (ap len_of (sym e)) (
+        omega (arith, ap length rest, length-drop n (take m input), length-take m input, all, few, within),
+        (
+          (λ l. ap (λ x. items_after x s (unread_of s ++ [])) s-known ∙ ap (λ xs. items_in layout s.keeps s.after_high (xs ++ [])) (none-of s s-empty) ∙ items-none layout s.keeps s.after_high),
+          (λ l. subst (λ x. IsWaiting x s) (sym s-known) (λ some. absurd (omega (arith, some, s-empty)))),
+        ),
+      )
 
   pub input-steps : Steps r s input last n us room end'
   input-steps = elim (cases_lt m (length input)) [

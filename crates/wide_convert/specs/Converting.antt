@@ -1,5 +1,5 @@
 -- A conversion of a text, piece by piece.
-use Rattle.std.specs.Prelude.{◌≡◌, ℕ, ◌+◌, ◌-◌, ◌*◌, ◌<◌, ◌≤◌, Bool, true, false, List, [], ◌∷◌, ◌++◌, drop, length, map, if◌then◌else◌, Option, Some, None}
+use Rattle.std.specs.Prelude.{◌≡◌, ℕ, ◌+◌, ◌-◌, ◌<◌, Bool, true, false, List, [], ◌∷◌, ◌++◌, drop, length, map, if◌then◌else◌, Some, None}
 use Rattle.wide_forms.specs.Items.{characters}
 use Rattle.wide_forms.specs.Lossy.{ends_in_fault}
 use Rattle.wide_forms.specs.Segmentation.{Item, Char, Fault}
@@ -8,7 +8,7 @@ use Rattle.wide_schemes.specs.declared.layout.Layout.{Layout}
 use Rattle.wide_convert.specs.Positions.{IsAfter}
 use Rattle.wide_convert.specs.declared.position.Position.{Position}
 use Rattle.wide_convert.specs.declared.converter.TextFault.{TextFault}
-use Rattle.wide_convert.specs.Steps.{IsWaiting, StartsStep, items_left}
+use Rattle.wide_convert.specs.Steps.{IsReading, IsWaiting, SameKind, StartsStep, items_left}
 use Rattle.wide_convert.specs.Texts.{text_by}
 use Rattle.wide_convert.specs.declared.reading.Reading.{Reading}
 use Rattle.wide_convert.specs.declared.converter.ProgressEnd.{ProgressEnd}
@@ -52,3 +52,47 @@ pub record Feeds (old new : Reading) (to : Layout) (input : List ℕ) (last : Bo
   pub strict : old.policy ≡ None → passed ≡ map Char (characters passed) ++ fault_in end
   pub starts : StartsStep old.layout new.layout old new input last read
   pub ends : EndsFeed old new input last read passed room end
+
+-- A converter, as its contracts see it.
+pub record Converting : Type 0 where
+  pub reading : Reading
+  pub to : Layout
+  pub bom : Bool
+
+-- What always holds of a converter: in UTF-32 nothing but characters can be written.
+pub record IsConverting (c : Converting) : Type 0 where
+  pub ready : IsReading c.reading
+  pub text : needs_text c.to ≡ true → c.reading.keeps ≡ false
+
+-- The BOM that a converter still has to write.
+abbrev pub bom_left : Converting → List ℕ
+bom_left c = bom_bytes c.to c.bom
+
+-- The items of the text, from now on, if these bytes follow.
+abbrev pub items_of : Converting → List ℕ → List Item
+items_of c more = items_left c.reading more
+
+-- The position that a converter has reached.
+abbrev pub position_of : Converting → Position
+position_of c = c.reading.position
+
+-- The text of items that a converter passes.
+abbrev pub text_of : Converting → List Item → List ℕ
+text_of c is = encoded c.to (text_by c.reading.policy c.reading.after_fault is)
+
+-- What was read and is no item so far.
+abbrev pub kept_len : Converting → ℕ
+kept_len c = c.reading.unread_len
+
+-- A converter read the first `read` bytes of the input and passed these items, whose text was written after a BOM.
+pub record Pushes (old new : Converting) (input : List ℕ) (last : Bool) (read : ℕ) (written : List ℕ) (room : ℕ) (end : ProgressEnd) : Type 0 where
+  pub passed : List Item
+  pub items : (more : List ℕ) → MayFollow last more → items_of old (input ++ more) ≡ passed ++ items_of new (drop read input ++ more)
+  pub text : bom_left old ++ text_of old passed ≡ written ++ bom_left new
+  pub fault : new.reading.after_fault ≡ ends_in_fault old.reading.after_fault passed
+  pub moved : IsAfter (position_of old) (position_of new) (kept_len old + read - kept_len new) passed
+  pub strict : old.reading.policy ≡ None → passed ≡ map Char (characters passed) ++ fault_in end
+  pub starts : StartsStep old.reading.layout new.reading.layout old.reading new.reading input last read
+  pub same : SameKind old.reading new.reading
+  pub to : new.to ≡ old.to
+  pub ends : EndsFeed old.reading new.reading input last read passed room end

@@ -1,16 +1,20 @@
 //! Converts a text from one encoding scheme to another, piece by piece.
 
-ghost use Rattle.std.specs.Prelude.{◌≡◌, ◌+◌, ◌-◌, ◌*◌, ◌<◌, ◌≤◌, ◌⊎◌, ℕ, List, false, true, length, take, drop};
+ghost use Rattle.std.specs.Prelude.{◌≡◌, ◌+◌, ◌-◌, ◌*◌, ◌<◌, ◌≤◌, ◌⊎◌, ℕ, List, [], false, true, length, take, drop};
 ghost use Rattle.wide_forms.specs.EncodingForm.{Utf16};
 ghost use Rattle.wide_forms.specs.Items.{IsWellFormed};
 ghost use Rattle.wide_unit.specs.CodePoints.{code_points};
 ghost use Rattle.wide_schemes.specs.Layouts.{encoded, needs_text};
-ghost use Rattle.wide_convert.specs.Converting.{Feeds, fault_before};
+ghost use Rattle.wide_convert.specs.Converting.{Converting, Feeds, IsConverting, Pushes, bom_bytes, bom_left, fault_before, kept_len, items_of, position_of, text_of};
+ghost use Rattle.wide_convert.specs.Texts.{text_by};
+ghost use Rattle.wide_forms.specs.Segmentation.{Item};
+ghost use Rattle.wide_schemes.specs.Schemes.{items_from, keeps_halves, layout_to};
 ghost use Rattle.wide_convert.specs.Steps.{IsReading, SameKind};
 
 use crate::position::Position;
 use crate::reading::Reading;
 use crate::steps::{StepEnd, read_step};
+use std::marker::Model;
 use wide_forms::Policy;
 use wide_schemes::{Layout, Scheme, encode, keeps_halves, layout_to};
 
@@ -158,5 +162,113 @@ fn feed(
         read,
         written,
         end: ProgressEnd::NoSpace,
+    }
+}
+
+// Writes a BOM at the beginning of `out`, or nothing if `bom` is false, and returns how many bytes were written.
+fn put_bom(to: Layout, bom: bool, out: &mut [u8]) -> usize
+    requires { 8 ≤ length out.old }
+    ensures text { take result out.new ≡ bom_bytes to bom }
+    ensures within { result ≤ length out.new }
+{
+    if bom { put_text(to, &[0xfeff], out) } else { 0 }
+}
+
+impl Model for Converter {
+    ghost Value = { Converting };
+
+    ghost view = { λ c. record { reading = c.reading; to = c.to; bom = c.bom } };
+
+    ghost inverse = { λ v. record { reading = v.reading; to = v.to; bom = v.bom } };
+
+    ghost invariant = { λ c. IsConverting (record { reading = c.reading; to = c.to; bom = c.bom }) };
+}
+
+impl Converter {
+    /// Creates a converter of a text that begins with the next input, from one scheme to another.
+    ///
+    /// With a policy, faults are replaced by what the policy has for them. Without one, the converter stops at each. If
+    /// `bom` is true, a BOM is written before the text (Unicode Standard, section 23.8).
+    pub fn new(from: Scheme, to: Scheme, policy: Option<Policy>, bom: bool) -> Converter
+        ensures items { (more : List ℕ) → items_of result more ≡ items_from from (keeps_halves from to) more }
+        ensures text { (is : List Item) → text_of result is ≡ encoded (layout_to to) (text_by policy false is) }
+        ensures bom { bom_left result ≡ bom_bytes (layout_to to) bom }
+        ensures position { position_of result ≡ record { bytes = 0; items = 0; faults = 0 } }
+    {
+        Converter {
+            reading: Reading::new(from, keeps_halves(from, to), policy),
+            to: layout_to(to),
+            bom,
+        }
+    }
+
+    /// Returns how much of the text was read: the position after the items that were passed.
+    pub fn position(&self) -> Position
+        ensures { result ≡ position_of self.now }
+    {
+        self.reading.position
+    }
+
+    // Reads input, after which others follow unless it is the last, and writes the text of what was read after a BOM.
+    fn run(&mut self, input: &[u8], is_last: bool, output: &mut [u8]) -> ConvertProgress
+        ensures read { result.read ≤ length input.now }
+        ensures written { result.written ≤ length output.new }
+        ensures pushes { Pushes self.old self.new input.now is_last result.read (take result.written output.new) (length output.new - result.written) result.end }
+    {
+        let to = self.to;
+        if output.len() < LEAST_SPACE {
+            return ConvertProgress {
+                read: 0,
+                written: 0,
+                end: ProgressEnd::NoSpace,
+            };
+        }
+        let start = put_bom(to, self.bom, output);
+        let rest = &mut output[start..];
+        let progress = feed(&mut self.reading, to, input, is_last, rest);
+        self.bom = false;
+        ConvertProgress {
+            written: start + progress.written,
+            ..progress
+        }
+    }
+
+    /// Reads the next bytes of the text, and writes the text of the characters that these complete at the beginning of
+    /// `output`. Bytes of a character that is not complete are kept. It stops at the end of the input, at a fault if
+    /// there is no policy, and where fewer than eight bytes of space are left. The bytes after those written may be
+    /// overwritten.
+    pub fn push(&mut self, input: &[u8], output: &mut [u8]) -> ConvertProgress
+        ensures read { result.read ≤ length input.now }
+        ensures written { result.written ≤ length output.new }
+        ensures pushes { Pushes self.old self.new input.now false result.read (take result.written output.new) (length output.new - result.written) result.end }
+    {
+        self.run(input, false, output)
+    }
+
+    /// Reads the next bytes of the text, which are the last ones. It does what [`Converter::push`] does, except that
+    /// nothing remains that a character may still be made of: bytes that are kept are a fault, or part of a unit.
+    pub fn push_last(&mut self, input: &[u8], output: &mut [u8]) -> ConvertProgress
+        ensures read { result.read ≤ length input.now }
+        ensures written { result.written ≤ length output.new }
+        ensures pushes { Pushes self.old self.new input.now true result.read (take result.written output.new) (length output.new - result.written) result.end }
+    {
+        self.run(input, true, output)
+    }
+
+    /// Ends the text, of which no bytes follow.
+    pub fn finish(&mut self, output: &mut [u8]) -> ConvertProgress
+        ensures written { result.written ≤ length output.new }
+        ensures pushes { Pushes self.old self.new [] true result.read (take result.written output.new) (length output.new - result.written) result.end }
+    {
+        self.run(&[], true, output)
+    }
+
+    /// Returns how many bytes are kept: at most four, the beginning of a text, of a unit or of a character. Once the text
+    /// was ended they are part of a unit.
+    pub fn kept_len(&self) -> usize
+        ensures len { result ≡ kept_len self.now }
+        ensures few { result ≤ 4 }
+    {
+        self.reading.unread_len
     }
 }

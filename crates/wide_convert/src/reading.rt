@@ -1,7 +1,8 @@
 //! What is known of a text that is being read.
 
-ghost use Rattle.std.specs.Prelude.{◌≡◌, ◌+◌, ◌-◌, ◌≤◌, ◌++◌, drop, length};
-ghost use Rattle.wide_convert.specs.Steps.{SameButUnread, unread_of};
+ghost use Rattle.std.specs.Prelude.{◌≡◌, ◌+◌, ◌-◌, ◌≤◌, ◌++◌, ℕ, List, false, drop, length};
+ghost use Rattle.wide_convert.specs.Steps.{IsReading, SameButUnread, items_left, unread_of};
+ghost use Rattle.wide_schemes.specs.Schemes.{items_from};
 
 use crate::position::Position;
 use wide_forms::Policy;
@@ -30,6 +31,31 @@ pub(crate) struct Reading {
     pub(crate) bom: usize,
     // What was passed.
     pub(crate) position: Position,
+}
+
+impl Reading {
+    // Returns what is known of a text of which nothing was read.
+    pub(crate) fn new(scheme: Scheme, keeps: bool, policy: Option<Policy>) -> Reading
+        ensures ready { IsReading result }
+        ensures items { (more : List ℕ) → items_left result more ≡ items_from scheme keeps more }
+        ensures keeps { result.keeps ≡ keeps }
+        ensures policy { result.policy ≡ policy }
+        ensures no_fault { result.after_fault ≡ false }
+        ensures start { result.position ≡ record { bytes = 0; items = 0; faults = 0 } }
+    {
+        Reading {
+            scheme,
+            keeps,
+            policy,
+            layout: None,
+            after_high: false,
+            after_fault: false,
+            unread: [0; 4],
+            unread_len: 0,
+            bom: 0,
+            position: Position::start(),
+        }
+    }
 }
 
 // Keeps these bytes after those that are kept.

@@ -1,5 +1,5 @@
 -- No bytes have no items.
-use Rattle.std.proofs.Common.{◌≡◌, List, [], Bool, true, false, map, ap, ◌∙◌, arith}
+use Rattle.std.proofs.Common.{◌≡◌, [], Bool, true, false, map, ap, ◌∙◌, arith}
 use Rattle.wide_forms.specs.EncodingForm.{Utf16 as Utf16Form, Utf32 as Utf32Form}
 use Rattle.wide_forms.specs.Items.{items}
 use Rattle.wide_forms.specs.Segmentation.{Char}
@@ -9,7 +9,7 @@ use Rattle.wide_bytes.proofs.Pairs.{units_in-short}
 use Rattle.wide_conversions.specs.Utf8Items.{utf8_items, utf8_items-divide, utf8_items-unique}
 use Rattle.wide_conversions.specs.Utf8Items as items8
 use Rattle.wide_schemes.specs.Layouts.{items_in, scalar_item}
-use Rattle.wide_schemes.specs.Wtf8Items.{none, wtf8_items, wtf8_items-unique}
+use Rattle.wide_schemes.specs.Wtf8Items.{none, wtf8_items-unique}
 use Rattle.wide_schemes.specs.declared.layout.Layout.{Layout}
 use Rattle.wide_schemes.specs.declared.layout.Layout.TheVariants.{Utf8, Wtf8, Utf16, Utf32}
 use Rattle.wide_schemes.proofs.Units32.{units32_in-short}

@@ -1,8 +1,7 @@
-use Rattle.std.proofs.Common.{◌≡◌, ℕ, ◌+◌, ◌-◌, ◌<◌, ◌≤◌, List, [], ◌∷◌, ◌++◌, Bool, true, false, length, length-append, length-drop, length-take, take, drop, refl, sym, ap, ◌∙◌, subst, arith}
+use Rattle.std.proofs.Common.{◌≡◌, ℕ, ◌+◌, ◌-◌, ◌≤◌, List, [], ◌++◌, Bool, length, length-append, length-drop, length-take, take, drop, refl, sym, ap, ◌∙◌, subst, arith}
 use borrow.Rule.Slice.PartMut.{put_mid}
 use Rattle.std.proofs.lemmas.List.{take-append-le}
 use Rattle.wide_forms.specs.EncodingForm.{Utf16}
-use Rattle.wide_forms.specs.Segmentation.{Fault}
 use Rattle.wide_unit.specs.CodePoints.{code_points}
 use Rattle.wide_schemes.specs.Layouts.{encoded}
 use Rattle.wide_schemes.specs.declared.layout.Layout.{Layout}
@@ -11,7 +10,7 @@ use Rattle.wide_convert.specs.Steps.{EndsStep, SameKind, Steps, fault_at, len_at
 use Rattle.wide_convert.specs.declared.reading.Reading.{Reading}
 use Rattle.wide_convert.specs.declared.steps.StepEnd.{StepEnd}
 use Rattle.wide_convert.specs.declared.steps.StepEnd.TheVariants.{More, NeedsInput, NoSpace, Fault as AtFault}
-use Rattle.wide_convert.proofs.Feeding.{SoFar, feeds-fault, feeds-input, feeds-space, so_far-none, so_far-then}
+use Rattle.wide_convert.proofs.Feeding.{SoFar, feeds-fault, feeds-input, so_far-none, so_far-then}
 use Rattle.wide_convert.proofs.converter.feed.Goals as goal
 
 pub loop-out-init : goal.loop-out-init
@@ -33,7 +32,7 @@ module _ (r s t : Reading) (to : Layout) (input : List ℕ) (last : Bool) (n m w
 
   next : SoFar r t to input last (n + m) (take (w + put) (put_mid w (length out - w) out new)) (fault_at end) (len_at end)
   next = subst (λ xs. SoFar r t to input last (n + m) xs (fault_at end) (len_at end)) (put-at out new w put (length out - w) space within)
-    (so_far-then r s t to input last n m (take w out) (take written units) (take put new) room end so_far step-rest same (text ∙ ap (λ us. encoded to (code_points Utf16 us)) (take-append-le written units pivot fits)))
+      (so_far-then r s t to input last n m (take w out) (take written units) (take put new) room end so_far step-rest same (text ∙ ap (λ us. encoded to (code_points Utf16 us)) (take-append-le written units pivot fits)))
 
 -- A step at which the loop goes on is at no fault.
 quiet : (end : StepEnd) → ((unit len : ℕ) → ¬ (end ≡ AtFault unit len)) → (fault_at end ≡ []) × (len_at end ≡ 0)
@@ -100,5 +99,5 @@ loop-out-preserved c =
       ready = step.ensures.ready;
       text = λ needs. step.ensures.same.keeps ∙ i.text needs;
       so_far = subst (λ fs. SoFar r t c.args.to input c.args.is_last (n + step.result.read) (take (w + put.result) (put_mid w (length out - w) out put.new.out)) fs 0) calm.0
-        (subst (λ len. SoFar r t c.args.to input c.args.is_last (n + step.result.read) (take (w + put.result) (put_mid w (length out - w) out put.new.out)) (fault_at step.result.end) len) calm.1 so_far);
+          (subst (λ len. SoFar r t c.args.to input c.args.is_last (n + step.result.read) (take (w + put.result) (put_mid w (length out - w) out put.new.out)) (fault_at step.result.end) len) calm.1 so_far);
     }

@@ -1,4 +1,4 @@
-use Rattle.std.proofs.Common.{◌≡◌, ◌<◌, length, length-take, take, ap, arith}
+use Rattle.std.proofs.Common.{length, length-take, ap, arith}
 use Rattle.wide_convert.proofs.Encoded.{some-text}
 use Rattle.wide_convert.proofs.converter.put_text.Goals as goal
 

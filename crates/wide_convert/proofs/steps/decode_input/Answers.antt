@@ -1,8 +1,3 @@
-use Rattle.std.proofs.Common.{◌≡◌, ℕ, ◌+◌, ◌-◌, ◌<◌, ◌≤◌, length, take, drop, refl, sym, ap, ◌∙◌, subst, arith}
-use Rattle.std.specs.Prelude.{IsTrue}
-use Rattle.wide_convert.specs.Steps.{end_within}
-use Rattle.wide_convert.specs.declared.window.WindowEnd.TheVariants.{AtEnd, Incomplete}
-use Rattle.wide_convert.specs.declared.steps.StepEnd.TheVariants.{NeedsInput}
 use Rattle.wide_convert.proofs.Stepping.{input-steps}
 use Rattle.wide_convert.proofs.steps.decode_input.Goals as goal
 
@@ -12,5 +7,5 @@ returns-clause-steps c =
     let input = c.args.input.now in
     let len = c.window_len-len.result in
     input-steps c.args.layout c.args.reading.now step.new.reading input c.args.is_last c.is_last_window-is_last.result len step.result.read _ _ step.result.end c.end_at.result c.requires.known step.ensures.passes step.ensures.same
-      c.window_len-len.ensures.within c.requires.none c.is_last_window-is_last.ensures.last step.ensures.read c.window_len-len.ensures.some
-      c.end_at.ensures.whole c.end_at.ensures.other (c.is_kept.ensures.none c.if-is_kept.false)
+    c.window_len-len.ensures.within c.requires.none c.is_last_window-is_last.ensures.last step.ensures.read c.window_len-len.ensures.some
+    c.end_at.ensures.whole c.end_at.ensures.other (c.is_kept.ensures.none c.if-is_kept.false)
