@@ -1,5 +1,5 @@
 -- A text that is read step by step, and the bytes that are written of it.
-use Rattle.std.proofs.Common.{◌≡◌, ℕ, ◌+◌, ◌-◌, ◌<◌, ◌≤◌, List, [], ◌∷◌, ◌++◌, Bool, true, false, length, length-append, drop, map, refl, sym, ap, ◌∙◌, subst, arith, append_assoc}
+use Rattle.std.proofs.Common.{◌%◌, ◌≡◌, ℕ, ◌+◌, ◌-◌, ◌<◌, ◌≤◌, List, [], ◌∷◌, ◌++◌, Bool, true, false, length, length-append, drop, map, refl, sym, ap, ◌∙◌, subst, arith, append_assoc}
 use Rattle.std.specs.Prelude.{Option, Some, None}
 use Rattle.std.proofs.lemmas.List.{append-nil, drop-drop, map-append}
 use Rattle.wide_forms.specs.EncodingForm.{Utf16}
@@ -15,11 +15,11 @@ use Rattle.wide_forms.specs.declared.policy.Policy.TheVariants.{Each, Run, Skip}
 use Rattle.wide_forms.specs.Laws.Offsets.{characters-chars}
 use Rattle.wide_forms.specs.Laws.Policies.{characters-append, ends_in_fault-append}
 use Rattle.wide_unit.specs.CodePoints.{code_of, code_points}
-use Rattle.wide_schemes.specs.Layouts.{MayFollow, encoded}
+use Rattle.wide_schemes.specs.Layouts.{MayFollow, encoded, unit_len}
 use Rattle.wide_schemes.specs.Schemes.{bom_len, layout_from}
 use Rattle.wide_schemes.specs.declared.layout.Layout.{Layout}
 use Rattle.wide_convert.specs.Positions.{IsAfter, counted}
-use Rattle.wide_convert.specs.Steps.{IsReading, IsWaiting, MayBe, SameKind, StartsStep, Steps, fault_at, items_left, len_at, unread_of}
+use Rattle.wide_convert.specs.Steps.{IsReading, IsWaiting, MayBe, SameKind, StartsStep, Steps, fault_at, items_left, len_at, unread_of, IsEnded}
 use Rattle.wide_convert.specs.Texts.{faults_in, text_by}
 use Rattle.wide_convert.specs.declared.reading.Reading.{Reading}
 use Rattle.wide_convert.specs.declared.steps.StepEnd.{StepEnd}
@@ -28,7 +28,7 @@ use Rattle.wide_convert.specs.Converting.{EndsFeed, Feeds, Pushes, bom_bytes, fa
 use Rattle.wide_convert.specs.declared.converter.TextFault.{TextFault}
 use Rattle.wide_convert.specs.declared.converter.ProgressEnd.{ProgressEnd}
 use Rattle.wide_convert.specs.declared.converter.ProgressEnd.TheVariants.{NeedsInput as FeedNeedsInput, NoSpace as FeedNoSpace, Fault as FeedFault}
-use Rattle.wide_convert.proofs.Encoded.{encoded-append, encoded-nil}
+use Rattle.wide_convert.proofs.Encoded.{encoded-append, encoded-nil, whole-add, whole-none}
 use Rattle.wide_convert.proofs.Passing.{counted-twice, faults-append, text-append}
 use Rattle.wide_convert.proofs.Starting.{counted-none}
 
@@ -43,6 +43,7 @@ pub record SoFar (r s : Reading) (to : Layout) (input : List ℕ) (last : Bool) 
   pub same : SameKind r s
   pub kept : s.unread_len ≤ r.unread_len + read
   pub starts : StartsStep r.layout s.layout r s input last read
+  pub whole : (layout : Layout) → MayBe s.layout layout → (r.unread_len + read - s.unread_len) % unit_len layout ≡ 0
   pub spans : r.policy ≡ None → (layout : Layout) → MayBe s.layout layout → r.bom + (r.unread_len + read - s.unread_len) ≡ s.bom + (length (encoded layout (characters passed)) + len)
 
 text-none : (policy : Option Policy) (after_fault : Bool) → text_by policy after_fault [] ≡ []
@@ -72,6 +73,7 @@ so_far-none r to input last ready = record {
   same = record { scheme = refl; keeps = refl; policy = refl };
   kept = omega arith;
   starts = starts-none r input last r.layout refl (λ none. ready.no_bom none);
+  whole = λ layout may. ap (λ n. n % unit_len layout) (omega arith) ∙ whole-none layout;
   spans = λ none layout may. omega (arith, ap length (encoded-nil layout));
 }
 
@@ -179,6 +181,7 @@ module _ (r s t : Reading) (to : Layout) (input : List ℕ) (last : Bool) (n m :
     same = record { scheme = same.scheme ∙ so_far.same.scheme; keeps = same.keeps ∙ so_far.same.keeps; policy = same.policy ∙ so_far.same.policy };
     kept = omega (arith, so_far.kept, step.kept);
     starts = starts-then r s t input last n m r.layout s.layout t.layout refl refl so_far.same.scheme so_far.starts step.starts;
+    whole = λ layout may. subst (λ k. k % unit_len layout ≡ 0) consumed (whole-add layout (r.unread_len + n - s.unread_len) (s.unread_len + m - t.unread_len) (so_far.whole layout (may-before s t (drop n input) last m layout s.layout t.layout refl step.starts may)) (step.whole layout may));
     spans = spans-are;
   }
 
@@ -193,13 +196,14 @@ feeds-by r t to input last read written room faults len end so_far is ends = rec
   moved = so_far.moved;
   strict = λ none. so_far.strict none ∙ ap (λ fs. map Char (characters so_far.passed) ++ fs) is;
   starts = so_far.starts;
+  whole = so_far.whole;
   ends = ends;
 }
 
 pub feeds-space : (r t : Reading) (to : Layout) (input : List ℕ) (last : Bool) (read : ℕ) (written : List ℕ) (room : ℕ) → SoFar r t to input last read written [] 0 → room < 8 → Feeds r t to input last read written room FeedNoSpace
 feeds-space r t to input last read written room so_far full = feeds-by r t to input last read written room [] 0 FeedNoSpace so_far refl full
 
-pub feeds-input : (r t : Reading) (to : Layout) (input : List ℕ) (last : Bool) (read : ℕ) (written : List ℕ) (room : ℕ) → SoFar r t to input last read written [] 0 → read ≡ length input → (last ≡ true → items_left t [] ≡ []) → (last ≡ false → IsWaiting t.layout t) → Feeds r t to input last read written room FeedNeedsInput
+pub feeds-input : (r t : Reading) (to : Layout) (input : List ℕ) (last : Bool) (read : ℕ) (written : List ℕ) (room : ℕ) → SoFar r t to input last read written [] 0 → read ≡ length input → (last ≡ true → IsEnded t) → (last ≡ false → IsWaiting t.layout t) → Feeds r t to input last read written room FeedNeedsInput
 feeds-input r t to input last read written room so_far all done waits = feeds-by r t to input last read written room [] 0 FeedNeedsInput so_far refl (all, (done, waits))
 
 pub feeds-fault : (r t : Reading) (to : Layout) (input : List ℕ) (last : Bool) (read : ℕ) (written : List ℕ) (room unit len : ℕ) → SoFar r t to input last read written (Fault unit ∷ []) len → r.policy ≡ None → (layout : Layout) → t.layout ≡ Some layout → (fault : TextFault) → fault ≡ fault_before t.position unit len
@@ -230,6 +234,7 @@ pushes-of r t to bom input last read written after room room' end feeds same-roo
   moved = feeds.moved;
   strict = feeds.strict;
   starts = feeds.starts;
+  whole = feeds.whole;
   same = same;
   to = refl;
   ends = subst (λ n. EndsFeed r t input last read feeds.passed n end) same-room feeds.ends;
@@ -247,6 +252,7 @@ pushes-none r to bom input last room ready full =
       moved = feeds.moved;
       strict = feeds.strict;
       starts = feeds.starts;
+      whole = feeds.whole;
       same = record { scheme = refl; keeps = refl; policy = refl };
       to = refl;
       ends = feeds.ends;

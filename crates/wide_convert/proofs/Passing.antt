@@ -17,6 +17,7 @@ use Rattle.wide_forms.specs.Laws.Splices.{IsWellFormed-append}
 use Rattle.wide_unit.specs.CodePoints.{code_of, code_points}
 use Rattle.wide_schemes.specs.Layouts.{BeginsWithFault, MayFollow, encoded, items_in}
 use Rattle.wide_schemes.specs.declared.layout.Layout.{Layout}
+use Rattle.wide_convert.proofs.Encoded.{whole-add}
 use Rattle.wide_convert.specs.Positions.{IsAfter, counted}
 use Rattle.wide_convert.specs.Readings.{EndsWindow, IsFaultPassed, Passes, PassesFault, PassesText, PassesWindow, SameText, end_after_fault, fault_of, len_of}
 use Rattle.wide_convert.specs.Texts.{faults_in, text_by}
@@ -128,6 +129,7 @@ module _ (layout : Layout) (r s t : Reading) (bytes : List ℕ) (last : Bool) (n
     fault = fault.fault ∙ sym (ends_in_fault-append r.after_fault (map Char (code_points Utf16 us)) (Fault unit ∷ []));
     moved = moved-is;
     well_formed = λ keeps. subst (IsWellFormed Utf16) (sym fault.written) (well-replaced us (text_by s.policy s.after_fault (Fault unit ∷ [])) (fault-text s.policy s.after_fault unit) (passes.well_formed keeps));
+    whole = whole-add layout n len passes.whole begins.whole;
   }
 
   -- Without a policy nothing is written for the fault.

@@ -1,6 +1,7 @@
 -- The beginning of a text: bytes that are kept, the layout that they determine, and a BOM.
-use Rattle.std.proofs.Common.{◌≡◌, ◌⊎◌, inl, inr, ℕ, ◌+◌, ◌-◌, ◌^◌, ◌<◌, ◌≤◌, List, [], ◌∷◌, ◌++◌, Bool, true, false, length, length-drop, take, drop, map, refl, sym, ap, ◌∙◌, subst, arith, append_assoc}
-use Rattle.std.specs.Prelude.{Option, Some, None, min}
+use Rattle.wide_bytes.specs.Bytes.{bom_of}
+use Rattle.std.proofs.Common.{◌%◌, ◌≡◌, ◌⊎◌, inl, inr, ℕ, ◌+◌, ◌-◌, ◌^◌, ◌<◌, ◌≤◌, List, [], ◌∷◌, ◌++◌, Bool, true, false, length, length-drop, take, drop, map, refl, sym, ap, ◌∙◌, subst, arith, append_assoc}
+use Rattle.std.specs.Prelude.{Option, Some, None, min, if◌then◌else◌, is_some}
 use Rattle.std.proofs.lemmas.Bool.{cases_Bool, cases_lt}
 use Rattle.std.proofs.lemmas.Bool.Decides.{nat_tests}
 use Rattle.std.proofs.lemmas.List.{append-nil, drop-append-le, nil_from_length, take-append-drop}
@@ -10,12 +11,13 @@ use Rattle.wide_forms.specs.declared.policy.Policy.{Policy}
 use Rattle.wide_forms.specs.declared.policy.Policy.TheVariants.{Each, Run, Skip}
 use Rattle.wide_forms.specs.Laws.Items.{items-nil}
 use Rattle.wide_unit.specs.CodePoints.{code_of, code_points}
-use Rattle.wide_schemes.specs.Layouts.{MayFollow, encoded, items_in}
-use Rattle.wide_schemes.specs.Schemes.{bom_len, items_from, layout_from, start_len}
+use Rattle.wide_schemes.specs.Layouts.{MayFollow, encoded, items_in, unit_len}
+use Rattle.wide_schemes.specs.Schemes.{bom_len, items_from, layout_from, start_len, bom32_of}
 use Rattle.wide_schemes.specs.declared.scheme.Scheme.{Scheme}
 use Rattle.wide_schemes.specs.declared.scheme.Scheme.TheVariants.{Utf8, Wtf8, Utf16Le, Utf16Be, Utf16, Utf32Le, Utf32Be, Utf32}
+use Rattle.wide_convert.proofs.Encoded.{whole-none}
 use Rattle.wide_convert.specs.Positions.{counted}
-use Rattle.wide_convert.specs.Steps.{IsReading, IsStart, IsWaiting, StartsStep, SameButUnread, Steps, items_after, items_left, left_by, much_left, unread_of}
+use Rattle.wide_convert.specs.Steps.{MayBe, IsReading, IsStart, IsWaiting, StartsStep, SameButUnread, Steps, items_after, items_left, left_by, much_left, unread_of}
 use Rattle.wide_convert.specs.declared.steps.StepEnd.TheVariants.{More, NeedsInput}
 use Rattle.wide_forms.specs.Laws.Splices.{IsWellFormed-nil}
 use Rattle.wide_schemes.specs.declared.layout.Layout.{Layout}
@@ -82,6 +84,25 @@ bom-within Utf32 (a ∷ b ∷ []) = grind (arith, nat_tests)
 bom-within Utf32 (a ∷ b ∷ c ∷ []) = grind (arith, nat_tests)
 bom-within Utf32 (a ∷ b ∷ c ∷ d ∷ bs) = grind (arith, nat_tests)
 
+-- A BOM is a whole unit.
+bom-whole : (scheme : Scheme) (bs : List ℕ) → bom_len scheme bs % unit_len (layout_from scheme bs) ≡ 0
+bom-whole Utf8 bs = refl
+bom-whole Wtf8 bs = refl
+bom-whole Utf16Le bs = refl
+bom-whole Utf16Be bs = refl
+bom-whole Utf32Le bs = refl
+bom-whole Utf32Be bs = refl
+bom-whole Utf16 bs = by (is_some (bom_of bs))
+  where
+    by : (b : Bool) → (if b then 2 else 0) % 2 ≡ 0
+    by true = refl
+    by false = refl
+bom-whole Utf32 bs = by (is_some (bom32_of bs))
+  where
+    by : (b : Bool) → (if b then 4 else 0) % 4 ≡ 0
+    by true = refl
+    by false = refl
+
 -- The items of a text, where the beginning determines the layout, or is all of the text.
 pub opened : (scheme : Scheme) (keeps : Bool) (bs more : List ℕ) → (start_len scheme ≤ length bs) ⊎ (more ≡ []) → items_from scheme keeps (bs ++ more) ≡ items_in (layout_from scheme bs) keeps false (drop (bom_len scheme bs) bs ++ more)
 opened scheme keeps bs more (inl enough) =
@@ -127,6 +148,7 @@ module _ (r s : Reading) (input : List ℕ) (last : Bool) (read : ℕ) (ready : 
           after_faults = ap (λ p. p.faults) same.position ∙ counted-none r.position.faults ready.fits.faults;
         };
         well_formed = λ k. IsWellFormed-nil Utf16Form;
+        whole = λ layout may. ap (λ n. n % unit_len layout) (omega (arith, len)) ∙ whole-none layout;
         strict = λ k. no-codes;
         kept = omega (arith, len);
         starts = subst (λ l. StartsStep l s.layout r s input last read) (sym closed) (subst (λ l. StartsStep None l r s input last read) (sym still)
@@ -184,6 +206,7 @@ module _ (r s : Reading) (input : List ℕ) (last : Bool) (read : ℕ) (ready : 
         after_faults = t-faults ∙ ap (λ p. counted p.faults 0) same.position;
       };
       well_formed = λ k. IsWellFormed-nil Utf16Form;
+        whole = λ layout' may. subst (λ l. (r.unread_len + read - t.unread_len) % unit_len l ≡ 0) (subst (λ l. MayBe l layout') open' may) (ap (λ n. n % unit_len layout) (omega (arith, len, t-len, within)) ∙ subst (λ l. bom % unit_len l ≡ 0) (sym layout-is) (subst (λ n. n % unit_len (layout_from s.scheme (unread_of s)) ≡ 0) (sym bom-is) (bom-whole s.scheme (unread_of s))));
       strict = λ k. no-codes;
       kept = omega (arith, len, t-len);
       starts = subst (λ l. StartsStep l t.layout r t input last read) (sym closed) (subst (λ l. StartsStep None l r t input last read) (sym open') start-known);

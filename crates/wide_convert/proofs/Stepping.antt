@@ -1,17 +1,18 @@
 -- A step of reading a text, by what decoding a window did.
-use Rattle.std.proofs.Common.{inl, inr, ◌≡◌, ℕ, ◌+◌, ◌-◌, ◌<◌, ◌≤◌, List, [], ◌++◌, Bool, true, length, length-append, length-drop, length-take, take, drop, map, refl, sym, ap, ◌∙◌, subst, arith, append_assoc}
+use Rattle.std.proofs.Common.{◌%◌, inl, inr, ◌≡◌, ℕ, ◌+◌, ◌-◌, ◌<◌, ◌≤◌, List, [], ◌++◌, Bool, true, length, length-append, length-drop, length-take, take, drop, map, refl, sym, ap, ◌∙◌, subst, arith, append_assoc, false}
 use Rattle.std.specs.Prelude.{Some, IsTrue}
-use Rattle.std.proofs.lemmas.List.{drop-append-le, nil_from_length, take-append-drop}
+use Rattle.std.proofs.lemmas.List.{drop-append-le, nil_from_length, take-append-drop, append-nil}
 use Rattle.std.proofs.Math.Seq.{drop-append-add}
 use Rattle.wide_forms.specs.EncodingForm.{Utf16}
 use Rattle.wide_forms.specs.Segmentation.{Char}
 use Rattle.wide_unit.specs.CodePoints.{code_points}
-use Rattle.wide_schemes.specs.Layouts.{MayFollow, encoded, items_in}
-use Rattle.std.proofs.lemmas.Bool.{cases_lt}
+use Rattle.wide_schemes.specs.Layouts.{MayFollow, encoded, items_in, unit_len, IsBeginning}
+use Rattle.std.proofs.lemmas.Bool.{cases_lt, cases_Bool}
 use Rattle.wide_schemes.proofs.NoItems.{items-none}
 use Rattle.wide_schemes.specs.declared.layout.Layout.{Layout}
 use Rattle.wide_convert.specs.declared.steps.StepEnd.TheVariants.{NeedsInput}
-use Rattle.wide_convert.specs.Steps.{IsWaiting}
+use Rattle.wide_convert.specs.Steps.{IsWaiting, IsEnded}
+use Rattle.wide_convert.proofs.Encoded.{unit-some}
 use Rattle.wide_convert.specs.Positions.{IsAfter}
 use Rattle.wide_convert.specs.Readings.{EndsWindow, PassesWindow, SameText, fault_of, len_of}
 use Rattle.wide_convert.specs.Steps.{EndsStep, MayBe, SameButUnread, StartsStep, Steps, end_within, fault_at, len_at, items_after, much_left, left_by, unread_of}
@@ -43,6 +44,7 @@ module _ (layout : Layout) (r s t : Reading) (input window beyond : List ℕ) (l
     fault = kept.after_fault ∙ passes.passes.fault;
     moved = subst (λ k. IsAfter r.position t.position k passes.passed) consumed (subst (λ p. IsAfter r.position p n passes.passed) (sym kept.position) passes.passes.moved);
     well_formed = passes.passes.well_formed;
+    whole = λ layout' may. subst (λ l. (r.unread_len + read - t.unread_len) % unit_len l ≡ 0) (subst (λ l. MayBe l layout') still may) (subst (λ k. k % unit_len layout ≡ 0) consumed passes.passes.whole);
     strict = λ none. passes.strict none ∙ ap (λ is. map Char (code_points Utf16 us) ++ is) (sym fault-is);
     kept = omega (arith, passed);
     starts = subst (λ l. StartsStep l t.layout r t input last read) (sym known) (record { known = still; bom = kept.bom ∙ same.bom });
@@ -183,7 +185,7 @@ module _ (layout : Layout) (r s : Reading) (input : List ℕ) (last last_window 
       steps-by NeedsInput (ap fault_of (sym e)) (ap len_of (sym e)) (
         omega (arith, ap length rest, length-drop n (take m input), length-take m input, all, few, within),
         (
-          (λ l. ap (λ x. items_after x s (unread_of s ++ [])) s-known ∙ ap (λ xs. items_in layout s.keeps s.after_high (xs ++ [])) (none-of s s-empty) ∙ items-none layout s.keeps s.after_high),
+          (λ l. record { layout = layout; known = s-known; part = subst (λ k. k < unit_len layout) (sym s-empty) (unit-some layout); no_item = ap (λ x. items_after x s (unread_of s ++ [])) s-known ∙ ap (λ xs. items_in layout s.keeps s.after_high (xs ++ [])) (none-of s s-empty) ∙ items-none layout s.keeps s.after_high }),
           (λ l. subst (λ x. IsWaiting x s) (sym s-known) (λ some. absurd (omega (arith, some, s-empty)))),
         ),
       )
@@ -200,3 +202,53 @@ module _ (layout : Layout) (r s : Reading) (input : List ℕ) (last last_window 
       by NoSpace e whole = (let other : length input - m ≡ 0 → end ≡ AtEnd → ⊥ = λ k f. (let g = sym e ∙ f in cc) in subst (Steps r s input last n us room) (sym (other-end other)) (other-steps other))
       by Incomplete e whole = (let other : length input - m ≡ 0 → end ≡ AtEnd → ⊥ = λ k f. (let g = sym e ∙ f in cc) in subst (Steps r s input last n us room) (sym (other-end other)) (other-steps other))
       by (AtFault unit len) e whole = (let other : length input - m ≡ 0 → end ≡ AtEnd → ⊥ = λ k f. (let g = sym e ∙ f in cc) in subst (Steps r s input last n us room) (sym (other-end other)) (other-steps other))
+
+-- A step after which the last bytes are kept, since they are the beginning of a unit or of a character.
+module _ (layout : Layout) (r s t : Reading) (input window : List ℕ) (last last_window : Bool) (m n : ℕ) (us : List ℕ) (room : ℕ)
+    (known : r.layout ≡ Some layout) (passes : PassesWindow layout r s window last_window n us room Incomplete) (same : SameText r s) (kept : SameButUnread s t)
+    (window-is : window ≡ unread_of r ++ take m input) (all : m ≡ length input) (given : IsTrue last_window → (last ≡ true) × (length input - m ≡ 0)) (other : last_window ≡ false → last ≡ true → 0 < length input - m)
+    (t-unread : unread_of t ≡ drop n window) (t-len : r.unread_len + length input ≡ n + t.unread_len) (t-whole : length (unread_of t) ≡ t.unread_len) where
+  kept-known : t.layout ≡ Some layout
+  kept-known = kept.layout ∙ same.layout ∙ known
+
+  is-last : last ≡ true → last_window ≡ true
+  is-last e = elim (cases_Bool last_window) [
+    | inl yes' ↦ yes'
+    | inr no' ↦ absurd (omega (arith, other no' e, all))
+  ]
+
+  ended : last ≡ true → IsEnded t
+  ended e = record {
+    layout = layout;
+    known = kept-known;
+    part = omega (arith, passes.ends.part (is-last e), ap length t-unread, t-whole);
+    no_item =
+      ap (λ l. items_after l t (unread_of t ++ [])) kept-known ∙ ap (λ k. items_in layout k t.after_high (unread_of t ++ [])) (kept.keeps ∙ same.keeps) ∙ ap (λ h. items_in layout r.keeps h (unread_of t ++ [])) kept.after_high
+      ∙ ap (items_in layout r.keeps s.after_high) (append-nil (unread_of t) ∙ t-unread) ∙ passes.ends.no_item (is-last e);
+  }
+
+  pub kept-steps : Steps r t input last (length input) us room NeedsInput
+  kept-steps =
+      window-steps layout r s t input window (drop m input) last last_window n (length input) us room Incomplete NeedsInput known passes same kept
+        (λ more. kept-whole (unread_of r) window input more m window-is)
+        (λ more. ap (λ xs. xs ++ (drop (length input) input ++ more)) t-unread ∙ ap (λ k. drop n window ++ (drop k input ++ more)) (sym all))
+        (λ more may. none-may input more m last last_window given may) t-len refl refl
+        (refl, (ended, λ l. subst (λ x. IsWaiting x t) (sym kept-known) (λ some. subst (IsBeginning layout) (sym t-unread) passes.ends.beginning)))
+
+-- What changes nothing but the bytes that are kept, twice.
+pub kept-then : (r s t : Reading) → SameButUnread r s → SameButUnread s t → SameButUnread r t
+kept-then r s t one other = record {
+  scheme = other.scheme ∙ one.scheme;
+  keeps = other.keeps ∙ one.keeps;
+  policy = other.policy ∙ one.policy;
+  layout = other.layout ∙ one.layout;
+  after_high = other.after_high ∙ one.after_high;
+  after_fault = other.after_fault ∙ one.after_fault;
+  bom = other.bom ∙ one.bom;
+  position = other.position ∙ one.position;
+  space = other.space ∙ one.space;
+}
+
+-- Bytes that were kept before a window are kept after it.
+pub same-kept : (r s : Reading) → SameText r s → unread_of s ≡ unread_of r
+same-kept r s same = ap (λ k. take k s.unread) same.unread_len ∙ ap (take r.unread_len) same.unread

@@ -1,14 +1,14 @@
 -- A conversion of a text, piece by piece.
-use Rattle.std.specs.Prelude.{◌≡◌, ℕ, ◌+◌, ◌-◌, ◌<◌, Bool, true, false, List, [], ◌∷◌, ◌++◌, drop, length, map, if◌then◌else◌, Some, None}
+use Rattle.std.specs.Prelude.{◌≡◌, ℕ, ◌+◌, ◌-◌, ◌<◌, Bool, true, false, List, [], ◌∷◌, ◌++◌, drop, length, map, if◌then◌else◌, Some, None, ◌%◌}
 use Rattle.wide_forms.specs.Items.{characters}
 use Rattle.wide_forms.specs.Lossy.{ends_in_fault}
 use Rattle.wide_forms.specs.Segmentation.{Item, Char, Fault}
-use Rattle.wide_schemes.specs.Layouts.{MayFollow, encoded, needs_text}
+use Rattle.wide_schemes.specs.Layouts.{MayFollow, encoded, needs_text, unit_len}
 use Rattle.wide_schemes.specs.declared.layout.Layout.{Layout}
 use Rattle.wide_convert.specs.Positions.{IsAfter}
 use Rattle.wide_convert.specs.declared.position.Position.{Position}
 use Rattle.wide_convert.specs.declared.converter.TextFault.{TextFault}
-use Rattle.wide_convert.specs.Steps.{IsReading, IsWaiting, SameKind, StartsStep, items_left}
+use Rattle.wide_convert.specs.Steps.{IsEnded, IsReading, IsWaiting, MayBe, SameKind, StartsStep, items_left}
 use Rattle.wide_convert.specs.Texts.{text_by}
 use Rattle.wide_convert.specs.declared.reading.Reading.{Reading}
 use Rattle.wide_convert.specs.declared.converter.ProgressEnd.{ProgressEnd}
@@ -38,7 +38,7 @@ pub record SpansFault (old new : Reading) (read : ℕ) (cs : List ℕ) (unit : �
 
 -- What a conversion stopped at, where `room` bytes of space are left.
 abbrev pub EndsFeed : Reading → Reading → List ℕ → Bool → ℕ → List Item → ℕ → ProgressEnd → Type 0
-EndsFeed old new input last read passed room NeedsInput = (read ≡ length input) × ((last ≡ true → items_left new [] ≡ []) × (last ≡ false → IsWaiting new.layout new))
+EndsFeed old new input last read passed room NeedsInput = (read ≡ length input) × ((last ≡ true → IsEnded new) × (last ≡ false → IsWaiting new.layout new))
 EndsFeed old new input last read passed room NoSpace = room < 8
 EndsFeed old new input last read passed room (AtFault fault) = (old.policy ≡ None) × SpansFault old new read (characters passed) fault.unit fault
 
@@ -51,6 +51,7 @@ pub record Feeds (old new : Reading) (to : Layout) (input : List ℕ) (last : Bo
   pub moved : IsAfter old.position new.position (old.unread_len + read - new.unread_len) passed
   pub strict : old.policy ≡ None → passed ≡ map Char (characters passed) ++ fault_in end
   pub starts : StartsStep old.layout new.layout old new input last read
+  pub whole : (layout : Layout) → MayBe new.layout layout → (old.unread_len + read - new.unread_len) % unit_len layout ≡ 0
   pub ends : EndsFeed old new input last read passed room end
 
 -- A converter, as its contracts see it.
@@ -93,6 +94,7 @@ pub record Pushes (old new : Converting) (input : List ℕ) (last : Bool) (read 
   pub moved : IsAfter (position_of old) (position_of new) (kept_len old + read - kept_len new) passed
   pub strict : old.reading.policy ≡ None → passed ≡ map Char (characters passed) ++ fault_in end
   pub starts : StartsStep old.reading.layout new.reading.layout old.reading new.reading input last read
+  pub whole : (layout : Layout) → MayBe new.reading.layout layout → (kept_len old + read - kept_len new) % unit_len layout ≡ 0
   pub same : SameKind old.reading new.reading
   pub to : new.to ≡ old.to
   pub ends : EndsFeed old.reading new.reading input last read passed room end

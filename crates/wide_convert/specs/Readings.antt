@@ -1,12 +1,12 @@
 -- What decoding a window of a text does.
-use Rattle.std.specs.Prelude.{◌≡◌, ℕ, ◌+◌, ◌<◌, Bool, true, false, List, [], ◌∷◌, ◌++◌, drop, map, Option, Some, None, length}
+use Rattle.std.specs.Prelude.{◌≡◌, ℕ, ◌+◌, ◌%◌, ◌<◌, Bool, true, false, List, [], ◌∷◌, ◌++◌, drop, map, Option, Some, None, length}
 use Rattle.wide_forms.specs.EncodingForm.{Utf16}
 use Rattle.wide_forms.specs.Items.{IsWellFormed}
 use Rattle.wide_forms.specs.Lossy.{ends_in_fault, replacement}
 use Rattle.wide_forms.specs.declared.policy.Policy.{Policy}
 use Rattle.wide_forms.specs.Segmentation.{Item, Char, Fault}
 use Rattle.wide_unit.specs.CodePoints.{code_points}
-use Rattle.wide_schemes.specs.Layouts.{IsIncomplete, MayFollow, encoded, items_in}
+use Rattle.wide_schemes.specs.Layouts.{IsIncomplete, MayFollow, encoded, items_in, unit_len}
 use Rattle.wide_schemes.specs.declared.layout.Layout.{Layout}
 use Rattle.wide_convert.specs.Positions.{IsAfter}
 use Rattle.wide_convert.specs.Texts.{text_by}
@@ -31,6 +31,7 @@ pub record Passes (layout : Layout) (old new : Reading) (bytes : List ℕ) (last
   pub fault : new.after_fault ≡ ends_in_fault old.after_fault passed
   pub moved : IsAfter old.position new.position read passed
   pub well_formed : old.keeps ≡ false → IsWellFormed Utf16 us
+  pub whole : read % unit_len layout ≡ 0
 
 -- The first `read` bytes are characters, and `us` are their units.
 abbrev pub PassesText : Layout → Reading → Reading → List ℕ → Bool → ℕ → List ℕ → Type 0

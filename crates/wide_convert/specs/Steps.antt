@@ -1,11 +1,11 @@
 -- What is left of a text that is being read, and what a step of reading it does.
-use Rattle.std.specs.Prelude.{◌≡◌, ℕ, ◌+◌, ◌-◌, ◌<◌, ◌≤◌, Bool, true, false, List, [], ◌∷◌, ◌++◌, drop, length, map, take, Option, Some, None}
+use Rattle.std.specs.Prelude.{◌≡◌, ℕ, ◌+◌, ◌-◌, ◌%◌, ◌<◌, ◌≤◌, Bool, true, false, List, [], ◌∷◌, ◌++◌, drop, length, map, take, Option, Some, None}
 use Rattle.wide_forms.specs.EncodingForm.{Utf16}
 use Rattle.wide_forms.specs.Items.{IsWellFormed}
 use Rattle.wide_forms.specs.Lossy.{ends_in_fault}
 use Rattle.wide_forms.specs.Segmentation.{Item, Char, Fault}
 use Rattle.wide_unit.specs.CodePoints.{code_points}
-use Rattle.wide_schemes.specs.Layouts.{IsBeginning, MayFollow, encoded, items_in}
+use Rattle.wide_schemes.specs.Layouts.{IsBeginning, MayFollow, encoded, items_in, unit_len}
 use Rattle.wide_schemes.specs.Schemes.{bom_len, items_from, layout_from, start_len}
 use Rattle.wide_schemes.specs.declared.layout.Layout.{Layout}
 use Rattle.wide_convert.specs.Positions.{IsAfter, IsPosition}
@@ -61,6 +61,13 @@ abbrev pub IsWaiting : Option Layout → Reading → Type 0
 IsWaiting None reading = reading.unread_len < start_len reading.scheme
 IsWaiting (Some layout) reading = 0 < reading.unread_len → IsBeginning layout (unread_of reading)
 
+-- The text has ended. What was read and is no item is part of a unit.
+pub record IsEnded (reading : Reading) : Type 0 where
+  pub layout : Layout
+  pub known : reading.layout ≡ Some layout
+  pub part : reading.unread_len < unit_len layout
+  pub no_item : items_left reading [] ≡ []
+
 -- How much is left to read: bytes, and the layout if it is not known.
 abbrev pub left_by : Option Layout → ℕ → ℕ
 left_by None bytes = bytes + 1
@@ -112,7 +119,7 @@ MayBe (Some known) layout = known ≡ layout
 -- What a step ended at, where `room` units of space are left.
 abbrev pub EndsStep : Reading → Reading → List ℕ → Bool → ℕ → ℕ → StepEnd → Type 0
 EndsStep old new input last read room More = much_left new (length input - read) < much_left old (length input)
-EndsStep old new input last read room NeedsInput = (read ≡ length input) × ((last ≡ true → items_left new [] ≡ []) × (last ≡ false → IsWaiting new.layout new))
+EndsStep old new input last read room NeedsInput = (read ≡ length input) × ((last ≡ true → IsEnded new) × (last ≡ false → IsWaiting new.layout new))
 EndsStep old new input last read room NoSpace = (room < 2) × (much_left new (length input - read) ≤ much_left old (length input))
 EndsStep old new input last read room (AtFault unit len) = (old.policy ≡ None) × ((layout : Layout) × (new.layout ≡ Some layout))
 
@@ -124,6 +131,7 @@ pub record Steps (old new : Reading) (input : List ℕ) (last : Bool) (read : �
   pub fault : new.after_fault ≡ ends_in_fault old.after_fault passed
   pub moved : IsAfter old.position new.position (old.unread_len + read - new.unread_len) passed
   pub well_formed : old.keeps ≡ false → IsWellFormed Utf16 us
+  pub whole : (layout : Layout) → MayBe new.layout layout → (old.unread_len + read - new.unread_len) % unit_len layout ≡ 0
   pub strict : old.policy ≡ None → passed ≡ map Char (code_points Utf16 us) ++ fault_at end
   pub kept : new.unread_len ≤ old.unread_len + read
   pub starts : StartsStep old.layout new.layout old new input last read

@@ -101,6 +101,7 @@ module _ (order : BoM) (bytes : List ℕ) where
   no_scalar-begins last u begins = record {
     some = omega arith;
     within = begins.within;
+    whole = omega arith;
     first = λ more may. ap (items Utf32Form) (units32_in-first order bytes more u begins.within begins.is) ∙ items32-fault u (units32_in order (drop 4 bytes ++ more)) begins.no_scalar;
   }
 
@@ -111,4 +112,5 @@ module _ (order : BoM) (bytes : List ℕ) where
     few = few;
     beginning = few;
     no_item = λ end. ap (items Utf32Form) (units32_in-short order bytes few) ∙ items-nil Utf32Form;
+    part = λ end. few;
   }

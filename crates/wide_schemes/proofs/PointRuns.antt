@@ -126,7 +126,7 @@ no-point bs chars halves c rest bound e = elim (cases_Bool (is_surrogate c)) [
 ]
 
 ill_formed-fault : (keeps h : Bool) (rest : List ℕ) (last : Bool) (unit len : ℕ) → BeginsIllFormed rest last unit len → ((more : List ℕ) → MayFollow last more → StartsWithNoHalf (rest ++ more)) → BeginsWithFault Wtf8 keeps h rest last unit len
-ill_formed-fault keeps h rest last unit len ill halves = record { some = ill.some; within = ill.within; first = by keeps }
+ill_formed-fault keeps h rest last unit len ill halves = record { some = ill.some; within = ill.within; whole = omega arith; first = by keeps }
   where
     item : (t : Bool) (more : List ℕ) → MayFollow last more → wtf8_items t (rest ++ more) ≡ Fault unit ∷ wtf8_items t (drop len rest ++ more)
     item t more may =
@@ -149,6 +149,7 @@ text-stops-points keeps h rest last room Incomplete ends halves = record {
   few = few-begin rest ends.2;
   beginning = point-of_character rest ends.2;
   no_item = λ l. (let e = ends.1 in absurd cc);
+  part = λ l. (let e = ends.1 in absurd cc);
 }
 text-stops-points keeps h rest last room (AtFault unit len) ends halves = ill_formed-fault keeps h rest last unit len ends halves
 
@@ -161,7 +162,7 @@ few-no_half rest last few l more may u xs half e =
 
 -- A surrogate that is no item is a fault of three bytes.
 pub half-fault : (keeps h : Bool) (rest : List ℕ) (last : Bool) (u : ℕ) → BeginsWithHalf rest u → (keeps ≡ true → (h ≡ true) × (is_low u ≡ true)) → BeginsWithFault Wtf8 keeps h rest last u 3
-half-fault keeps h rest last u half second = record { some = omega arith; within = half.within; first = by keeps second }
+half-fault keeps h rest last u half second = record { some = omega arith; within = half.within; whole = omega arith; first = by keeps second }
   where
     bytes : (more : List ℕ) → rest ++ more ≡ utf8 (u ∷ []) ++ (drop 3 rest ++ more)
     bytes more = ap (λ xs. xs ++ more) half.whole ∙ append_assoc (utf8_bytes u) (drop 3 rest) more ∙ ap (λ xs. xs ++ (drop 3 rest ++ more)) (sym (append-nil (utf8_bytes u)))

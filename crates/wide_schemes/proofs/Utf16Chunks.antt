@@ -131,6 +131,7 @@ module _ (order : BoM) (bytes us : List ℕ) (count : ℕ) (filled : us ≡ take
       fault-begins16 = record {
         some = omega arith;
         within = omega (arith, length-drop (2 * index) bytes, within, few, before);
+        whole = omega arith;
         first = fault-first;
       }
 
@@ -159,6 +160,7 @@ half-incomplete order keeps rest last one = record {
   few = omega (arith, one);
   beginning = beginning-half order rest one;
   no_item = λ l. no-item order keeps rest (omega (arith, one));
+  part = λ l. omega (arith, one);
 }
 
 -- A high surrogate is left, which more units may follow.
@@ -175,6 +177,7 @@ high-incomplete order keeps bytes us c last filled within short high not_last =
       few = omega (arith, long, short);
       beginning = beginning-high order rest (slice_index us c) (drop (suc c) us) (omega (arith, long, within)) (omega (arith, long, short)) first high;
       no_item = λ l. absurd cc;
+      part = λ l. absurd cc;
     }
 
 -- No units follow if none may follow.

@@ -52,6 +52,7 @@ pub ill_formed-begins : (rest : List ℕ) (last : Bool) (unit len : ℕ) → Beg
 ill_formed-begins rest last unit len ill = record {
   some = ill.some;
   within = ill.within;
+  whole = omega arith;
   first = λ more may.
       let item = begins-part (rest ++ more) len (omega (arith, ill.some, ill.within, length-append rest more)) (ill.no_char more may) (ill.part more may) in
       let first : slice_index (rest ++ more) 0 ≡ unit = get_or_append_left rest more 0 0 (omega (arith, ill.some, ill.within)) ∙ sym ill.first in
@@ -73,5 +74,6 @@ text-stops rest last room Incomplete ends = record {
   few = few-begin rest ends.2;
   beginning = ends.2;
   no_item = λ l. (let e = ends.1 in absurd cc);
+  part = λ l. (let e = ends.1 in absurd cc);
 }
 text-stops rest last room (AtFault unit len) ends = ill_formed-begins rest last unit len ends

@@ -1,5 +1,5 @@
 -- What bytes mean, and what bytes code points have, in each encoding scheme: the Standard's D92 and D95 to D100.
-use Rattle.std.specs.Prelude.{◌≡◌, ℕ, ◌+◌, ◌*◌, ◌<◌, ◌≤◌, Bool, true, false, List, [], ◌∷◌, ◌++◌, drop, length, map, slice_index, if◌then◌else◌}
+use Rattle.std.specs.Prelude.{◌≡◌, ℕ, ◌+◌, ◌*◌, ◌%◌, ◌<◌, ◌≤◌, Bool, true, false, List, [], ◌∷◌, ◌++◌, drop, length, map, slice_index, if◌then◌else◌}
 use Rattle.wide_forms.specs.EncodingForm.{Utf16 as Utf16Form, Utf32 as Utf32Form, encode, IsHighSurrogate}
 use Rattle.wide_forms.specs.Items.{items}
 use Rattle.wide_forms.specs.Searches.{is_surrogate}
@@ -70,6 +70,13 @@ needs_text Wtf8 = false
 needs_text (Utf16 order) = false
 needs_text (Utf32 order) = true
 
+-- The number of bytes in a code unit of a layout.
+abbrev pub unit_len : Layout → ℕ
+unit_len Utf8 = 1
+unit_len Wtf8 = 1
+unit_len (Utf16 order) = 2
+unit_len (Utf32 order) = 4
+
 -- Any bytes may follow, or none if the bytes are the last ones.
 abbrev pub MayFollow : Bool → List ℕ → Type 0
 MayFollow last more = last ≡ true → more ≡ []
@@ -102,6 +109,7 @@ IsBeginning (Utf32 order) rest = length rest < 4
 pub record BeginsWithFault (layout : Layout) (keeps after_high : Bool) (bytes : List ℕ) (last : Bool) (unit len : ℕ) : Type 0 where
   pub some : 0 < len
   pub within : len ≤ length bytes
+  pub whole : len % unit_len layout ≡ 0
   pub first : (more : List ℕ) → MayFollow last more → items_in layout keeps after_high (bytes ++ more) ≡ Fault unit ∷ items_in layout keeps after_high (drop len bytes ++ more)
 
 -- The bytes are not enough for an item: at most three, the beginning of one. At the end they are no item, but part of a
@@ -111,6 +119,7 @@ pub record IsIncomplete (layout : Layout) (keeps after_high : Bool) (bytes : Lis
   pub few : length bytes < 4
   pub beginning : IsBeginning layout bytes
   pub no_item : last ≡ true → items_in layout keeps after_high bytes ≡ []
+  pub part : last ≡ true → length bytes < unit_len layout
 
 -- Decoding stopped before these bytes, where there is space for `room` more units.
 abbrev pub StopsBefore : Layout → Bool → Bool → List ℕ → Bool → ℕ → DecodeStop → Type 0

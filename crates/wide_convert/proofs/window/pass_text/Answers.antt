@@ -4,6 +4,7 @@ use Rattle.wide_forms.specs.Segmentation.{Char}
 use Rattle.wide_unit.specs.CodePoints.{code_points}
 use Rattle.std.proofs.lemmas.List.{length-map}
 use Rattle.wide_convert.specs.Positions.{counted}
+use Rattle.wide_convert.proofs.Encoded.{read-whole}
 use Rattle.wide_convert.proofs.Passing.{fault-chars, length-codes, no-faults, text-chars}
 use Rattle.wide_convert.proofs.window.pass_text.Goals as goal
 
@@ -24,4 +25,5 @@ returns-clause-passes c =
         after_faults = e.faults ∙ ap (counted c.args.reading.now.position.faults) (sym (no-faults cs));
       };
       well_formed = c.decode-step.ensures.well_formed;
+      whole = read-whole c.args.layout c.args.bytes.now us c.decode-step.result.read c.decode-step.ensures.read c.decode-step.ensures.bytes;
     }
