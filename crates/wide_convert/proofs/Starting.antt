@@ -206,7 +206,7 @@ module _ (r s : Reading) (input : List ℕ) (last : Bool) (read : ℕ) (ready : 
         after_faults = t-faults ∙ ap (λ p. counted p.faults 0) same.position;
       };
       well_formed = λ k. IsWellFormed-nil Utf16Form;
-        whole = λ layout' may. subst (λ l. (r.unread_len + read - t.unread_len) % unit_len l ≡ 0) (subst (λ l. MayBe l layout') open' may) (ap (λ n. n % unit_len layout) (omega (arith, len, t-len, within)) ∙ subst (λ l. bom % unit_len l ≡ 0) (sym layout-is) (subst (λ n. n % unit_len (layout_from s.scheme (unread_of s)) ≡ 0) (sym bom-is) (bom-whole s.scheme (unread_of s))));
+      whole = λ layout' may. subst (λ l. (r.unread_len + read - t.unread_len) % unit_len l ≡ 0) (subst (λ l. MayBe l layout') open' may) (ap (λ n. n % unit_len layout) (omega (arith, len, t-len, within)) ∙ subst (λ l. bom % unit_len l ≡ 0) (sym layout-is) (subst (λ n. n % unit_len (layout_from s.scheme (unread_of s)) ≡ 0) (sym bom-is) (bom-whole s.scheme (unread_of s))));
       strict = λ k. no-codes;
       kept = omega (arith, len, t-len);
       starts = subst (λ l. StartsStep l t.layout r t input last read) (sym closed) (subst (λ l. StartsStep None l r t input last read) (sym open') start-known);

@@ -223,17 +223,17 @@ module _ (layout : Layout) (r s t : Reading) (input window : List ℕ) (last las
     known = kept-known;
     part = omega (arith, passes.ends.part (is-last e), ap length t-unread, t-whole);
     no_item =
-      ap (λ l. items_after l t (unread_of t ++ [])) kept-known ∙ ap (λ k. items_in layout k t.after_high (unread_of t ++ [])) (kept.keeps ∙ same.keeps) ∙ ap (λ h. items_in layout r.keeps h (unread_of t ++ [])) kept.after_high
-      ∙ ap (items_in layout r.keeps s.after_high) (append-nil (unread_of t) ∙ t-unread) ∙ passes.ends.no_item (is-last e);
+        ap (λ l. items_after l t (unread_of t ++ [])) kept-known ∙ ap (λ k. items_in layout k t.after_high (unread_of t ++ [])) (kept.keeps ∙ same.keeps) ∙ ap (λ h. items_in layout r.keeps h (unread_of t ++ [])) kept.after_high
+        ∙ ap (items_in layout r.keeps s.after_high) (append-nil (unread_of t) ∙ t-unread) ∙ passes.ends.no_item (is-last e);
   }
 
   pub kept-steps : Steps r t input last (length input) us room NeedsInput
   kept-steps =
       window-steps layout r s t input window (drop m input) last last_window n (length input) us room Incomplete NeedsInput known passes same kept
-        (λ more. kept-whole (unread_of r) window input more m window-is)
-        (λ more. ap (λ xs. xs ++ (drop (length input) input ++ more)) t-unread ∙ ap (λ k. drop n window ++ (drop k input ++ more)) (sym all))
-        (λ more may. none-may input more m last last_window given may) t-len refl refl
-        (refl, (ended, λ l. subst (λ x. IsWaiting x t) (sym kept-known) (λ some. subst (IsBeginning layout) (sym t-unread) passes.ends.beginning)))
+      (λ more. kept-whole (unread_of r) window input more m window-is)
+      (λ more. ap (λ xs. xs ++ (drop (length input) input ++ more)) t-unread ∙ ap (λ k. drop n window ++ (drop k input ++ more)) (sym all))
+      (λ more may. none-may input more m last last_window given may) t-len refl refl
+      (refl, (ended, λ l. subst (λ x. IsWaiting x t) (sym kept-known) (λ some. subst (IsBeginning layout) (sym t-unread) passes.ends.beginning)))
 
 -- What changes nothing but the bytes that are kept, twice.
 pub kept-then : (r s t : Reading) → SameButUnread r s → SameButUnread s t → SameButUnread r t

@@ -35,5 +35,5 @@ returns-then-is_kept-clause-steps c =
     let t-unread : unread_of t ≡ drop n (take m input) = a.unread ∙ ap (λ xs. xs ++ take (length input - n) (drop n input)) (same-kept r s step.ensures.same ∙ none) ∙ rest-slice input n ∙ ap (drop n) (sym whole) in
     let rest-len : length (take (length input - n) (drop n input)) ≡ length input - n = omega (arith, ap length (rest-slice input n), length-drop n input) in
     kept-steps c.args.layout r s t input (take m input) c.args.is_last c.is_last_window-is_last.result m n us room c.requires.known passes step.ensures.same a.same (ap (λ xs. xs ++ take m input) (sym none)) all
-      c.is_last_window-is_last.ensures.last c.is_last_window-is_last.ensures.other t-unread (omega (arith, a.len, rest-len, step.ensures.same.unread_len, c.requires.none, step.ensures.read, ap length whole))
-      (omega (arith, ap length t-unread, length-drop n (take m input), ap length whole, a.len, rest-len, step.ensures.same.unread_len, c.requires.none))
+    c.is_last_window-is_last.ensures.last c.is_last_window-is_last.ensures.other t-unread (omega (arith, a.len, rest-len, step.ensures.same.unread_len, c.requires.none, step.ensures.read, ap length whole))
+    (omega (arith, ap length t-unread, length-drop n (take m input), ap length whole, a.len, rest-len, step.ensures.same.unread_len, c.requires.none))

@@ -54,5 +54,5 @@ returns-then-is_incomplete-clause-steps c =
     let t-unread : unread_of t ≡ drop n window =
     a.unread ∙ ap (λ xs. xs ++ input) (d.unread ∙ ap (drop n) (same-kept r s step.ensures.same)) ∙ ap (λ xs. drop n (unread_of r) ++ xs) (sym whole) ∙ sym (drop-append-le n (unread_of r) (take m input) (omega (arith, c.if-step-kept.true, kept-len))) ∙ ap (drop n) (sym is) in
     kept-steps c.args.layout r s t input window c.args.is_last c.is_last_window-is_last.result m n us room c.requires.known passes step.ensures.same (kept-then s c.drop_unread.new.reading t d.same a.same) is all
-      c.is_last_window-is_last.ensures.last c.is_last_window-is_last.ensures.other t-unread (omega (arith, a.len, d.len, step.ensures.same.unread_len, c.if-step-kept.true))
-      (omega (arith, ap length t-unread, length-drop n window, long, a.len, d.len, step.ensures.same.unread_len, c.if-step-kept.true, all))
+    c.is_last_window-is_last.ensures.last c.is_last_window-is_last.ensures.other t-unread (omega (arith, a.len, d.len, step.ensures.same.unread_len, c.if-step-kept.true))
+    (omega (arith, ap length t-unread, length-drop n window, long, a.len, d.len, step.ensures.same.unread_len, c.if-step-kept.true, all))
