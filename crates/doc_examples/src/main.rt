@@ -2,6 +2,7 @@
 #![tactic(auto)]
 
 mod bytes;
+mod convert;
 mod edit;
 mod error;
 mod iter;
@@ -14,12 +15,14 @@ mod ustr;
 mod ustring;
 mod utfstr;
 mod utfstring;
+mod wtf8;
 
 use std::process::{ExitCode, Termination};
 use std::test::Fail;
 
 fn main(rt: HostRuntime) -> ExitCode {
     let mut all = bytes::hold(&rt);
+    all &= convert::hold(&rt);
     all &= edit::hold(&rt);
     all &= error::hold(&rt);
     all &= iter::hold(&rt);
@@ -32,7 +35,8 @@ fn main(rt: HostRuntime) -> ExitCode {
     all &= ustring::hold(&rt);
     all &= utfstr::hold(&rt);
     all &= utfstring::hold(&rt);
-    if all && println!(rt; "422 examples hold").is_ok() {
+    all &= wtf8::hold(&rt);
+    if all && println!(rt; "451 examples hold").is_ok() {
         return ExitCode::SUCCESS;
     }
     ExitCode::FAILURE

@@ -56,6 +56,12 @@ some-encoded Wtf8 c cs = some-utf8 c (utf8 cs)
 some-encoded (Utf16 order) c cs = some-bytes order (encode Utf16Form (c ∷ cs)) (omega (arith, some_units Utf16Form c, length-append (code_units Utf16Form c) (encode Utf16Form cs)))
 some-encoded (Utf32 order) c cs = some-bytes32 order c cs
 
+-- Each code point has a byte at least.
+pub encoded-long : (layout : Layout) (cs : List ℕ) → length cs ≤ length (encoded layout cs)
+encoded-long layout [] = omega (arith, ap length (encoded-nil layout))
+encoded-long layout (c ∷ cs) =
+    omega (arith, encoded-long layout cs, some-encoded layout c [], ap length (encoded-append layout (c ∷ []) cs), length-append (encoded layout (c ∷ [])) (encoded layout cs))
+
 -- Units have code points, whose bytes they are.
 pub some-text : (layout : Layout) (us : List ℕ) → 0 < length us → 0 < length (encoded layout (code_points Utf16Form us))
 some-text layout us some = by (items Utf16Form us) refl

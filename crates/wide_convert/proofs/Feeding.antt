@@ -1,7 +1,8 @@
 -- A text that is read step by step, and the bytes that are written of it.
-use Rattle.std.proofs.Common.{◌%◌, ◌≡◌, ℕ, ◌+◌, ◌-◌, ◌<◌, ◌≤◌, List, [], ◌∷◌, ◌++◌, Bool, true, false, length, length-append, drop, map, refl, sym, ap, ◌∙◌, subst, arith, append_assoc}
+use Rattle.wide_convert.specs.Streams.{SoFar}
+use Rattle.std.proofs.Common.{◌%◌, ◌≡◌, ℕ, ◌+◌, ◌-◌, ◌<◌, ◌≤◌, List, [], ◌∷◌, ◌++◌, Bool, true, false, length, length-append, drop, map, refl, sym, ap, ◌∙◌, subst, arith, append_assoc, true≢false}
 use Rattle.std.specs.Prelude.{Option, Some, None}
-use Rattle.std.proofs.lemmas.List.{append-nil, drop-drop, map-append}
+use Rattle.std.proofs.lemmas.List.{append-nil, drop-drop, map-append, drop-append-le}
 use Rattle.wide_forms.specs.EncodingForm.{Utf16}
 use Rattle.std.specs.Char.{IsScalar}
 use Rattle.wide_forms.specs.Items.{IsWellFormed, characters}
@@ -18,7 +19,7 @@ use Rattle.wide_unit.specs.CodePoints.{code_of, code_points}
 use Rattle.wide_schemes.specs.Layouts.{MayFollow, encoded, unit_len}
 use Rattle.wide_schemes.specs.Schemes.{bom_len, layout_from}
 use Rattle.wide_schemes.specs.declared.layout.Layout.{Layout}
-use Rattle.wide_convert.specs.Positions.{IsAfter, counted}
+use Rattle.wide_convert.specs.Positions.{IsAfter, IsPosition, counted}
 use Rattle.wide_convert.specs.Steps.{IsReading, IsWaiting, MayBe, SameKind, StartsStep, Steps, fault_at, items_left, len_at, unread_of, IsEnded}
 use Rattle.wide_convert.specs.Texts.{faults_in, text_by}
 use Rattle.wide_convert.specs.declared.reading.Reading.{Reading}
@@ -32,20 +33,6 @@ use Rattle.wide_convert.proofs.Encoded.{encoded-append, encoded-nil, whole-add, 
 use Rattle.wide_convert.proofs.Passing.{counted-twice, faults-append, text-append}
 use Rattle.wide_convert.proofs.Starting.{counted-none}
 
--- What was passed so far: items, the last ones these faults, of `len` bytes, and the text that was written.
-pub record SoFar (r s : Reading) (to : Layout) (input : List ℕ) (last : Bool) (read : ℕ) (written : List ℕ) (faults : List Item) (len : ℕ) : Type 0 where
-  pub passed : List Item
-  pub items : (more : List ℕ) → MayFollow last more → items_left r (input ++ more) ≡ passed ++ items_left s (drop read input ++ more)
-  pub text : written ≡ encoded to (text_by r.policy r.after_fault passed)
-  pub fault : s.after_fault ≡ ends_in_fault r.after_fault passed
-  pub moved : IsAfter r.position s.position (r.unread_len + read - s.unread_len) passed
-  pub strict : r.policy ≡ None → passed ≡ map Char (characters passed) ++ faults
-  pub same : SameKind r s
-  pub kept : s.unread_len ≤ r.unread_len + read
-  pub starts : StartsStep r.layout s.layout r s input last read
-  pub whole : (layout : Layout) → MayBe s.layout layout → (r.unread_len + read - s.unread_len) % unit_len layout ≡ 0
-  pub spans : r.policy ≡ None → (layout : Layout) → MayBe s.layout layout → r.bom + (r.unread_len + read - s.unread_len) ≡ s.bom + (length (encoded layout (characters passed)) + len)
-
 text-none : (policy : Option Policy) (after_fault : Bool) → text_by policy after_fault [] ≡ []
 text-none None after_fault = refl
 text-none (Some Each) after_fault = refl
@@ -58,24 +45,27 @@ starts-none r input last None e no_bom = record { no_bom = no_bom refl; bytes = 
 starts-none r input last (Some layout) e no_bom = record { known = e; bom = refl }
 
 -- Nothing was read so far.
-pub so_far-none : (r : Reading) (to : Layout) (input : List ℕ) (last : Bool) → IsReading r → SoFar r r to input last 0 [] [] 0
-so_far-none r to input last ready = record {
+pub so_far-nothing : (r : Reading) (to : Layout) (input : List ℕ) (last : Bool) → IsPosition r.position → (r.layout ≡ None → r.bom ≡ 0) → SoFar r r to input last 0 [] [] 0
+so_far-nothing r to input last fits no_bom = record {
   passed = [];
   items = λ more may. refl;
   text = sym (ap (encoded to) (text-none r.policy r.after_fault) ∙ encoded-nil to);
   fault = refl;
   moved = record {
-    after_bytes = counted-none r.position.bytes ready.fits.bytes ∙ ap (counted r.position.bytes) (omega arith);
-    after_items = counted-none r.position.items ready.fits.items;
-    after_faults = counted-none r.position.faults ready.fits.faults;
+    after_bytes = counted-none r.position.bytes fits.bytes ∙ ap (counted r.position.bytes) (omega arith);
+    after_items = counted-none r.position.items fits.items;
+    after_faults = counted-none r.position.faults fits.faults;
   };
   strict = λ none. refl;
   same = record { scheme = refl; keeps = refl; policy = refl };
   kept = omega arith;
-  starts = starts-none r input last r.layout refl (λ none. ready.no_bom none);
+  starts = starts-none r input last r.layout refl no_bom;
   whole = λ layout may. ap (λ n. n % unit_len layout) (omega arith) ∙ whole-none layout;
   spans = λ none layout may. omega (arith, ap length (encoded-nil layout));
 }
+
+pub so_far-none : (r : Reading) (to : Layout) (input : List ℕ) (last : Bool) → IsReading r → SoFar r r to input last 0 [] [] 0
+so_far-none r to input last ready = so_far-nothing r to input last ready.fits ready.no_bom
 
 -- The layout and the BOM, from step to step.
 starts-then : (r s t : Reading) (input : List ℕ) (last : Bool) (n m : ℕ) (a b c : Option Layout) → s.layout ≡ b → t.layout ≡ c → s.scheme ≡ r.scheme → StartsStep a b r s input last n → StartsStep b c s t (drop n input) last m → StartsStep a c r t input last (n + m)
@@ -111,82 +101,100 @@ no-characters NeedsInput = refl
 no-characters NoSpace = refl
 no-characters (AtFault unit len) = refl
 
-module _ (r s t : Reading) (to : Layout) (input : List ℕ) (last : Bool) (n m : ℕ) (before us after : List ℕ) (room : ℕ) (end : StepEnd) (so_far : SoFar r s to input last n before [] 0) (step : Steps s t (drop n input) last m us room end) (same : SameKind s t)
-    (written : after ≡ encoded to (code_points Utf16 us)) where
-  all : List Item
-  all = so_far.passed ++ step.passed
+-- What one step passed, where its text was written.
+module _ (s t : Reading) (to : Layout) (input : List ℕ) (last : Bool) (m : ℕ) (us after : List ℕ) (room : ℕ) (end : StepEnd) (step : Steps s t input last m us room end) (same : SameKind s t) (written : after ≡ encoded to (code_points Utf16 us)) where
+  -- The characters of a step without a policy.
+  step-characters : s.policy ≡ None → characters step.passed ≡ code_points Utf16 us
+  step-characters none =
+      ap characters (step.strict none) ∙ characters-append (map Char (code_points Utf16 us)) (fault_at end) ∙ ap (λ cs. cs ++ characters (fault_at end)) (characters-chars (code_points Utf16 us))
+      ∙ ap (λ cs. code_points Utf16 us ++ cs) (no-characters end) ∙ append-nil (code_points Utf16 us)
 
-  steps-text : code_points Utf16 us ≡ text_by r.policy (ends_in_fault r.after_fault so_far.passed) step.passed
-  steps-text = step.text ∙ ap (λ p. text_by p s.after_fault step.passed) so_far.same.policy ∙ ap (λ h. text_by r.policy h step.passed) so_far.fault
+  so_far-step : SoFar s t to input last m after (fault_at end) (len_at end)
+  so_far-step = record {
+    passed = step.passed;
+    items = step.items;
+    text = written ∙ ap (encoded to) step.text;
+    fault = step.fault;
+    moved = step.moved;
+    strict = λ none. step.strict none ∙ ap (λ cs. map Char cs ++ fault_at end) (sym (step-characters none));
+    same = same;
+    kept = step.kept;
+    starts = step.starts;
+    whole = step.whole;
+    spans = λ none layout may. step.spans none layout may ∙ ap (λ cs. t.bom + (length (encoded layout cs) + len_at end)) (sym (step-characters none));
+  }
+
+-- What was passed so far, and what was passed after it.
+module _ (r s t : Reading) (to : Layout) (input : List ℕ) (last : Bool) (n m : ℕ) (before after : List ℕ) (faults : List Item) (len : ℕ) (so_far : SoFar r s to input last n before [] 0) (more : SoFar s t to (drop n input) last m after faults len) where
+  all : List Item
+  all = so_far.passed ++ more.passed
 
   text-is : before ++ after ≡ encoded to (text_by r.policy r.after_fault all)
   unfolding all
   text-is =
-      ap (λ xs. xs ++ after) so_far.text ∙ ap (λ xs. encoded to (text_by r.policy r.after_fault so_far.passed) ++ xs) (written ∙ ap (encoded to) steps-text)
-      ∙ sym (encoded-append to (text_by r.policy r.after_fault so_far.passed) (text_by r.policy (ends_in_fault r.after_fault so_far.passed) step.passed)) ∙ ap (encoded to) (sym (text-append r.policy r.after_fault so_far.passed step.passed))
+      let policies : text_by s.policy s.after_fault more.passed ≡ text_by r.policy (ends_in_fault r.after_fault so_far.passed) more.passed = ap (λ p. text_by p s.after_fault more.passed) so_far.same.policy ∙ ap (λ h. text_by r.policy h more.passed) so_far.fault in
+      ap (λ xs. xs ++ after) so_far.text ∙ ap (λ xs. encoded to (text_by r.policy r.after_fault so_far.passed) ++ xs) (more.text ∙ ap (encoded to) policies)
+      ∙ sym (encoded-append to (text_by r.policy r.after_fault so_far.passed) (text_by r.policy (ends_in_fault r.after_fault so_far.passed) more.passed)) ∙ ap (encoded to) (sym (text-append r.policy r.after_fault so_far.passed more.passed))
 
-  items-are : (more : List ℕ) → MayFollow last more → items_left r (input ++ more) ≡ all ++ items_left t (drop (n + m) input ++ more)
+  items-are : (beyond : List ℕ) → MayFollow last beyond → items_left r (input ++ beyond) ≡ all ++ items_left t (drop (n + m) input ++ beyond)
   unfolding all
-  items-are more may =
-      so_far.items more may ∙ ap (λ is. so_far.passed ++ is) (step.items more may) ∙ sym (append_assoc so_far.passed step.passed (items_left t (drop m (drop n input) ++ more))) ∙ ap (λ xs. (so_far.passed ++ step.passed) ++ items_left t (xs ++ more)) (drop-drop m n input)
+  items-are beyond may =
+      so_far.items beyond may ∙ ap (λ is. so_far.passed ++ is) (more.items beyond may) ∙ sym (append_assoc so_far.passed more.passed (items_left t (drop m (drop n input) ++ beyond))) ∙ ap (λ xs. (so_far.passed ++ more.passed) ++ items_left t (xs ++ beyond)) (drop-drop m n input)
 
   consumed : (r.unread_len + n - s.unread_len) + (s.unread_len + m - t.unread_len) ≡ r.unread_len + (n + m) - t.unread_len
-  consumed = omega (arith, so_far.kept, step.kept)
+  consumed = omega (arith, so_far.kept, more.kept)
 
   moved-is : IsAfter r.position t.position (r.unread_len + (n + m) - t.unread_len) all
   unfolding all
   moved-is = record {
-    after_bytes = counted-twice r.position.bytes s.position.bytes t.position.bytes (r.unread_len + n - s.unread_len) (s.unread_len + m - t.unread_len) so_far.moved.after_bytes step.moved.after_bytes ∙ ap (counted r.position.bytes) consumed;
-    after_items = counted-twice r.position.items s.position.items t.position.items (length so_far.passed) (length step.passed) so_far.moved.after_items step.moved.after_items ∙ ap (counted r.position.items) (sym (length-append so_far.passed step.passed));
-    after_faults = counted-twice r.position.faults s.position.faults t.position.faults (faults_in so_far.passed) (faults_in step.passed) so_far.moved.after_faults step.moved.after_faults ∙ ap (counted r.position.faults) (sym (faults-append so_far.passed step.passed));
+    after_bytes = counted-twice r.position.bytes s.position.bytes t.position.bytes (r.unread_len + n - s.unread_len) (s.unread_len + m - t.unread_len) so_far.moved.after_bytes more.moved.after_bytes ∙ ap (counted r.position.bytes) consumed;
+    after_items = counted-twice r.position.items s.position.items t.position.items (length so_far.passed) (length more.passed) so_far.moved.after_items more.moved.after_items ∙ ap (counted r.position.items) (sym (length-append so_far.passed more.passed));
+    after_faults = counted-twice r.position.faults s.position.faults t.position.faults (faults_in so_far.passed) (faults_in more.passed) so_far.moved.after_faults more.moved.after_faults ∙ ap (counted r.position.faults) (sym (faults-append so_far.passed more.passed));
   }
 
-  -- The characters of a step without a policy.
-  step-characters : r.policy ≡ None → characters step.passed ≡ code_points Utf16 us
-  step-characters none =
-      ap characters (step.strict (so_far.same.policy ∙ none)) ∙ characters-append (map Char (code_points Utf16 us)) (fault_at end) ∙ ap (λ cs. cs ++ characters (fault_at end)) (characters-chars (code_points Utf16 us))
-      ∙ ap (λ cs. code_points Utf16 us ++ cs) (no-characters end) ∙ append-nil (code_points Utf16 us)
-
-  all-characters : r.policy ≡ None → characters all ≡ characters so_far.passed ++ code_points Utf16 us
+  all-characters : characters all ≡ characters so_far.passed ++ characters more.passed
   unfolding all
-  all-characters none = characters-append so_far.passed step.passed ∙ ap (λ cs. characters so_far.passed ++ cs) (step-characters none)
+  all-characters = characters-append so_far.passed more.passed
 
-  all-is : r.policy ≡ None → all ≡ map Char (characters so_far.passed) ++ (map Char (code_points Utf16 us) ++ fault_at end)
+  all-is : r.policy ≡ None → all ≡ map Char (characters so_far.passed) ++ (map Char (characters more.passed) ++ faults)
   unfolding all
-  all-is k = ap (λ is. is ++ step.passed) (so_far.strict k ∙ append-nil (map Char (characters so_far.passed))) ∙ ap (λ is. map Char (characters so_far.passed) ++ is) (step.strict (so_far.same.policy ∙ k))
+  all-is k = ap (λ is. is ++ more.passed) (so_far.strict k ∙ append-nil (map Char (characters so_far.passed))) ∙ ap (λ is. map Char (characters so_far.passed) ++ is) (more.strict (so_far.same.policy ∙ k))
 
-  strict-is : r.policy ≡ None → all ≡ map Char (characters all) ++ fault_at end
+  strict-is : r.policy ≡ None → all ≡ map Char (characters all) ++ faults
   strict-is none =
-      let cs = characters so_far.passed in
-      all-is none ∙ sym (append_assoc (map Char cs) (map Char (code_points Utf16 us)) (fault_at end)) ∙ ap (λ is. is ++ fault_at end) (sym (map-append Char cs (code_points Utf16 us))) ∙ ap (λ ds. map Char ds ++ fault_at end) (sym (all-characters none))
+      all-is none ∙ sym (append_assoc (map Char (characters so_far.passed)) (map Char (characters more.passed)) faults) ∙ ap (λ is. is ++ faults) (sym (map-append Char (characters so_far.passed) (characters more.passed))) ∙ ap (λ ds. map Char ds ++ faults) (sym all-characters)
 
-  spans-are : r.policy ≡ None → (layout : Layout) → MayBe t.layout layout → r.bom + (r.unread_len + (n + m) - t.unread_len) ≡ t.bom + (length (encoded layout (characters all)) + len_at end)
+  spans-are : r.policy ≡ None → (layout : Layout) → MayBe t.layout layout → r.bom + (r.unread_len + (n + m) - t.unread_len) ≡ t.bom + (length (encoded layout (characters all)) + len)
   spans-are none layout may =
-      let one = so_far.spans none layout (may-before s t (drop n input) last m layout s.layout t.layout refl step.starts may) in
-      let other = step.spans (so_far.same.policy ∙ none) layout may in
-      let long : length (encoded layout (characters all)) ≡ length (encoded layout (characters so_far.passed)) + length (encoded layout (code_points Utf16 us)) =
-      ap (λ cs. length (encoded layout cs)) (all-characters none) ∙ ap length (encoded-append layout (characters so_far.passed) (code_points Utf16 us)) ∙ length-append (encoded layout (characters so_far.passed)) (encoded layout (code_points Utf16 us)) in
-      omega (arith, one, other, long, consumed, so_far.kept, step.kept)
+      let one = so_far.spans none layout (may-before s t (drop n input) last m layout s.layout t.layout refl more.starts may) in
+      let other = more.spans (so_far.same.policy ∙ none) layout may in
+      let long : length (encoded layout (characters all)) ≡ length (encoded layout (characters so_far.passed)) + length (encoded layout (characters more.passed)) =
+      ap (λ cs. length (encoded layout cs)) all-characters ∙ ap length (encoded-append layout (characters so_far.passed) (characters more.passed)) ∙ length-append (encoded layout (characters so_far.passed)) (encoded layout (characters more.passed)) in
+      omega (arith, one, other, long, consumed, so_far.kept, more.kept)
 
-  -- What was passed so far, after one more step.
-  pub so_far-then : SoFar r t to input last (n + m) (before ++ after) (fault_at end) (len_at end)
+  pub so_far-join : SoFar r t to input last (n + m) (before ++ after) faults len
   unfolding all
-  so_far-then = record {
-    passed = so_far.passed ++ step.passed;
+  so_far-join = record {
+    passed = so_far.passed ++ more.passed;
     items = items-are;
     text = text-is;
-    fault = step.fault ∙ ap (λ h. ends_in_fault h step.passed) so_far.fault ∙ sym (ends_in_fault-append r.after_fault so_far.passed step.passed);
+    fault = more.fault ∙ ap (λ h. ends_in_fault h more.passed) so_far.fault ∙ sym (ends_in_fault-append r.after_fault so_far.passed more.passed);
     moved = moved-is;
     strict = strict-is;
-    same = record { scheme = same.scheme ∙ so_far.same.scheme; keeps = same.keeps ∙ so_far.same.keeps; policy = same.policy ∙ so_far.same.policy };
-    kept = omega (arith, so_far.kept, step.kept);
-    starts = starts-then r s t input last n m r.layout s.layout t.layout refl refl so_far.same.scheme so_far.starts step.starts;
-    whole = λ layout may. subst (λ k. k % unit_len layout ≡ 0) consumed (whole-add layout (r.unread_len + n - s.unread_len) (s.unread_len + m - t.unread_len) (so_far.whole layout (may-before s t (drop n input) last m layout s.layout t.layout refl step.starts may)) (step.whole layout may));
+    same = record { scheme = more.same.scheme ∙ so_far.same.scheme; keeps = more.same.keeps ∙ so_far.same.keeps; policy = more.same.policy ∙ so_far.same.policy };
+    kept = omega (arith, so_far.kept, more.kept);
+    starts = starts-then r s t input last n m r.layout s.layout t.layout refl refl so_far.same.scheme so_far.starts more.starts;
+    whole = λ layout may. subst (λ k. k % unit_len layout ≡ 0) consumed (whole-add layout (r.unread_len + n - s.unread_len) (s.unread_len + m - t.unread_len) (so_far.whole layout (may-before s t (drop n input) last m layout s.layout t.layout refl more.starts may)) (more.whole layout may));
     spans = spans-are;
   }
 
+-- What was passed so far, after one more step.
+pub so_far-then : (r s t : Reading) (to : Layout) (input : List ℕ) (last : Bool) (n m : ℕ) (before us after : List ℕ) (room : ℕ) (end : StepEnd) → SoFar r s to input last n before [] 0 → Steps s t (drop n input) last m us room end → SameKind s t → after ≡ encoded to (code_points Utf16 us)
+    → SoFar r t to input last (n + m) (before ++ after) (fault_at end) (len_at end)
+so_far-then r s t to input last n m before us after room end so_far step same written = so_far-join r s t to input last n m before after (fault_at end) (len_at end) so_far (so_far-step s t to (drop n input) last m us after room end step same written)
+
 -- What was passed so far, at the end of the input, at a fault, or where there is no space left.
-feeds-by : (r t : Reading) (to : Layout) (input : List ℕ) (last : Bool) (read : ℕ) (written : List ℕ) (room : ℕ) (faults : List Item) (len : ℕ) (end : ProgressEnd) (so_far : SoFar r t to input last read written faults len) → faults ≡ fault_in end → EndsFeed r t input last read so_far.passed room end
+feeds-by : (r t : Reading) (to : Layout) (input : List ℕ) (last : Bool) (read : ℕ) (written : List ℕ) (room : ℕ) (faults : List Item) (len : ℕ) (end : ProgressEnd) (so_far : SoFar r t to input last read written faults len) → faults ≡ fault_in end → EndsFeed r t input last read len room end
     → Feeds r t to input last read written room end
 feeds-by r t to input last read written room faults len end so_far is ends = record {
   passed = so_far.passed;
@@ -197,29 +205,24 @@ feeds-by r t to input last read written room faults len end so_far is ends = rec
   strict = λ none. so_far.strict none ∙ ap (λ fs. map Char (characters so_far.passed) ++ fs) is;
   starts = so_far.starts;
   whole = so_far.whole;
+  kept = so_far.kept;
+  len = len;
+  spans = so_far.spans;
   ends = ends;
 }
 
 pub feeds-space : (r t : Reading) (to : Layout) (input : List ℕ) (last : Bool) (read : ℕ) (written : List ℕ) (room : ℕ) → SoFar r t to input last read written [] 0 → room < 8 → Feeds r t to input last read written room FeedNoSpace
-feeds-space r t to input last read written room so_far full = feeds-by r t to input last read written room [] 0 FeedNoSpace so_far refl full
+feeds-space r t to input last read written room so_far full = feeds-by r t to input last read written room [] 0 FeedNoSpace so_far refl (refl, full)
 
 pub feeds-input : (r t : Reading) (to : Layout) (input : List ℕ) (last : Bool) (read : ℕ) (written : List ℕ) (room : ℕ) → SoFar r t to input last read written [] 0 → read ≡ length input → (last ≡ true → IsEnded t) → (last ≡ false → IsWaiting t.layout t) → Feeds r t to input last read written room FeedNeedsInput
-feeds-input r t to input last read written room so_far all done waits = feeds-by r t to input last read written room [] 0 FeedNeedsInput so_far refl (all, (done, waits))
+feeds-input r t to input last read written room so_far all done waits = feeds-by r t to input last read written room [] 0 FeedNeedsInput so_far refl (refl, (all, (done, waits)))
 
 pub feeds-fault : (r t : Reading) (to : Layout) (input : List ℕ) (last : Bool) (read : ℕ) (written : List ℕ) (room unit len : ℕ) → SoFar r t to input last read written (Fault unit ∷ []) len → r.policy ≡ None → (layout : Layout) → t.layout ≡ Some layout → (fault : TextFault) → fault ≡ fault_before t.position unit len
     → Feeds r t to input last read written room (FeedFault fault)
 feeds-fault r t to input last read written room unit len so_far none layout known fault is =
     let same-unit : fault.unit ≡ unit = ap (λ f. f.unit) is in
-    feeds-by r t to input last read written room (Fault unit ∷ []) len (FeedFault fault) so_far (ap (λ u. Fault u ∷ []) (sym same-unit)) (
-      none,
-      record {
-        layout = layout;
-        known = known;
-        len = len;
-        fault_is = is ∙ ap (λ u. fault_before t.position u len) (sym same-unit);
-        spans = so_far.spans none layout (subst (λ l. MayBe l layout) (sym known) refl);
-      },
-    )
+    feeds-by r t to input last read written room (Fault unit ∷ []) len (FeedFault fault) so_far (ap (λ u. Fault u ∷ []) (sym same-unit))
+    (none, record { layout = layout; known = known; fault_is = is ∙ ap (λ u. fault_before t.position u len) (sym same-unit) })
 
 -- ---- converters
 
@@ -237,7 +240,11 @@ pushes-of r t to bom input last read written after room room' end feeds same-roo
   whole = feeds.whole;
   same = same;
   to = refl;
-  ends = subst (λ n. EndsFeed r t input last read feeds.passed n end) same-room feeds.ends;
+  mark = λ some. refl;
+  kept = feeds.kept;
+  len = feeds.len;
+  spans = feeds.spans;
+  ends = subst (λ n. EndsFeed r t input last read feeds.len n end) same-room feeds.ends;
 }
 
 -- A converter did nothing for want of space.
@@ -255,6 +262,10 @@ pushes-none r to bom input last room ready full =
       whole = feeds.whole;
       same = record { scheme = refl; keeps = refl; policy = refl };
       to = refl;
+      mark = λ some. absurd (some refl);
+      kept = feeds.kept;
+      len = feeds.len;
+      spans = feeds.spans;
       ends = feeds.ends;
     }
 
@@ -266,3 +277,52 @@ bom-well = IsWellFormed-code_units Utf16 0xFEFF mark-scalar
 
 pub bom-codes : code_points Utf16 (0xFEFF ∷ []) ≡ 0xFEFF ∷ []
 bom-codes = ap (map code_of) (items-code_units Utf16 0xFEFF mark-scalar)
+
+-- ---- a text that comes from a device
+
+-- More bytes come.
+pub so_far-more : (r s : Reading) (to : Layout) (input more : List ℕ) (last : Bool) (read : ℕ) (written : List ℕ) (faults : List Item) (len : ℕ) → read ≤ length input → SoFar r s to input false read written faults len → SoFar r s to (input ++ more) last read written faults len
+so_far-more r s to input more last read written faults len within so_far = record {
+  passed = so_far.passed;
+  items = λ beyond may.
+      ap (items_left r) (append_assoc input more beyond) ∙ so_far.items (more ++ beyond) (λ e. absurd (true≢false (sym e))) ∙ ap (λ xs. so_far.passed ++ items_left s xs) (sym (append_assoc (drop read input) more beyond) ∙ ap (λ xs. xs ++ beyond) (sym (drop-append-le read input more within)));
+  text = so_far.text;
+  fault = so_far.fault;
+  moved = so_far.moved;
+  strict = so_far.strict;
+  same = so_far.same;
+  kept = so_far.kept;
+  starts = starts-more r.layout s.layout so_far.starts;
+  whole = so_far.whole;
+  spans = so_far.spans;
+}
+  where
+    starts-more : (a b : Option Layout) → StartsStep a b r s input false read → StartsStep a b r s (input ++ more) last read
+    starts-more None None starts = record {
+      no_bom = starts.no_bom;
+      bytes = λ beyond. ap (λ xs. unread_of r ++ xs) (append_assoc input more beyond) ∙ starts.bytes (more ++ beyond) ∙ ap (λ xs. unread_of s ++ xs) (sym (append_assoc (drop read input) more beyond) ∙ ap (λ xs. xs ++ beyond) (sym (drop-append-le read input more within)));
+    }
+    starts-more None (Some layout) starts = record {
+      layout_is = λ beyond may. ap (λ xs. layout_from r.scheme (unread_of r ++ xs)) (append_assoc input more beyond) ∙ starts.layout_is (more ++ beyond) (λ e. absurd (true≢false (sym e)));
+      bom_is = λ beyond may. ap (λ xs. bom_len r.scheme (unread_of r ++ xs)) (append_assoc input more beyond) ∙ starts.bom_is (more ++ beyond) (λ e. absurd (true≢false (sym e)));
+    }
+    starts-more (Some layout) b starts = starts
+
+-- What was passed by a call that reads and writes, after what was passed so far.
+pub so_far-feed : (r s t : Reading) (to : Layout) (input rest : List ℕ) (last : Bool) (n m : ℕ) (before after : List ℕ) (room : ℕ) (end : ProgressEnd) → SoFar r s to input last n before [] 0 → drop n input ≡ rest → (feeds : Feeds s t to rest last m after room end) → SameKind s t
+    → SoFar r t to input last (n + m) (before ++ after) (fault_in end) feeds.len
+so_far-feed r s t to input rest last n m before after room end so_far is feeds same =
+    so_far-join r s t to input last n m before after (fault_in end) feeds.len so_far
+    (subst (λ xs. SoFar s t to xs last m after (fault_in end) feeds.len) (sym is) (record {
+      passed = feeds.passed;
+      items = feeds.items;
+      text = feeds.text;
+      fault = feeds.fault;
+      moved = feeds.moved;
+      strict = feeds.strict;
+      same = same;
+      kept = feeds.kept;
+      starts = feeds.starts;
+      whole = feeds.whole;
+      spans = feeds.spans;
+    }))

@@ -3,3 +3,7 @@ pub mod Starting
 pub mod Stepping
 pub mod Encoded
 pub mod Feeding
+pub mod Streaming
+pub mod Ends
+pub mod Pieces
+pub mod Halves

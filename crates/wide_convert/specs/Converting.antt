@@ -1,5 +1,5 @@
 -- A conversion of a text, piece by piece.
-use Rattle.std.specs.Prelude.{◌≡◌, ℕ, ◌+◌, ◌-◌, ◌<◌, Bool, true, false, List, [], ◌∷◌, ◌++◌, drop, length, map, if◌then◌else◌, Some, None, ◌%◌}
+use Rattle.std.specs.Prelude.{◌≡◌, ℕ, ◌+◌, ◌-◌, ◌<◌, Bool, true, false, List, [], ◌∷◌, ◌++◌, drop, length, map, if◌then◌else◌, Some, None, ◌%◌, ◌≤◌}
 use Rattle.wide_forms.specs.Items.{characters}
 use Rattle.wide_forms.specs.Lossy.{ends_in_fault}
 use Rattle.wide_forms.specs.Segmentation.{Item, Char, Fault}
@@ -28,19 +28,17 @@ fault_in (AtFault fault) = Fault fault.unit ∷ []
 abbrev pub fault_before : Position → ℕ → ℕ → TextFault
 fault_before position unit len = record { offset = position.bytes - len; item = position.items - 1; unit = unit }
 
--- The layout of a text is known, and the characters in it were passed whose bytes these are, and a fault of `len` bytes.
-pub record SpansFault (old new : Reading) (read : ℕ) (cs : List ℕ) (unit : ℕ) (fault : TextFault) : Type 0 where
+-- A fault of `len` bytes was just passed, in a text whose layout is known.
+pub record IsFaultHere (new : Reading) (len : ℕ) (fault : TextFault) : Type 0 where
   pub layout : Layout
   pub known : new.layout ≡ Some layout
-  pub len : ℕ
-  pub fault_is : fault ≡ fault_before new.position unit len
-  pub spans : old.bom + (old.unread_len + read - new.unread_len) ≡ new.bom + (length (encoded layout cs) + len)
+  pub fault_is : fault ≡ fault_before new.position fault.unit len
 
 -- What a conversion stopped at, where `room` bytes of space are left.
-abbrev pub EndsFeed : Reading → Reading → List ℕ → Bool → ℕ → List Item → ℕ → ProgressEnd → Type 0
-EndsFeed old new input last read passed room NeedsInput = (read ≡ length input) × ((last ≡ true → IsEnded new) × (last ≡ false → IsWaiting new.layout new))
-EndsFeed old new input last read passed room NoSpace = room < 8
-EndsFeed old new input last read passed room (AtFault fault) = (old.policy ≡ None) × SpansFault old new read (characters passed) fault.unit fault
+abbrev pub EndsFeed : Reading → Reading → List ℕ → Bool → ℕ → ℕ → ℕ → ProgressEnd → Type 0
+EndsFeed old new input last read len room NeedsInput = (len ≡ 0) × ((read ≡ length input) × ((last ≡ true → IsEnded new) × (last ≡ false → IsWaiting new.layout new)))
+EndsFeed old new input last read len room NoSpace = (len ≡ 0) × (room < 8)
+EndsFeed old new input last read len room (AtFault fault) = (old.policy ≡ None) × IsFaultHere new len fault
 
 -- The first `read` bytes of the input were read and passed as these items, whose text was written in a layout.
 pub record Feeds (old new : Reading) (to : Layout) (input : List ℕ) (last : Bool) (read : ℕ) (written : List ℕ) (room : ℕ) (end : ProgressEnd) : Type 0 where
@@ -52,7 +50,10 @@ pub record Feeds (old new : Reading) (to : Layout) (input : List ℕ) (last : Bo
   pub strict : old.policy ≡ None → passed ≡ map Char (characters passed) ++ fault_in end
   pub starts : StartsStep old.layout new.layout old new input last read
   pub whole : (layout : Layout) → MayBe new.layout layout → (old.unread_len + read - new.unread_len) % unit_len layout ≡ 0
-  pub ends : EndsFeed old new input last read passed room end
+  pub kept : new.unread_len ≤ old.unread_len + read
+  pub len : ℕ
+  pub spans : old.policy ≡ None → (layout : Layout) → MayBe new.layout layout → old.bom + (old.unread_len + read - new.unread_len) ≡ new.bom + (length (encoded layout (characters passed)) + len)
+  pub ends : EndsFeed old new input last read len room end
 
 -- A converter, as its contracts see it.
 pub record Converting : Type 0 where
@@ -95,6 +96,10 @@ pub record Pushes (old new : Converting) (input : List ℕ) (last : Bool) (read 
   pub strict : old.reading.policy ≡ None → passed ≡ map Char (characters passed) ++ fault_in end
   pub starts : StartsStep old.reading.layout new.reading.layout old.reading new.reading input last read
   pub whole : (layout : Layout) → MayBe new.reading.layout layout → (kept_len old + read - kept_len new) % unit_len layout ≡ 0
+  pub kept : kept_len new ≤ kept_len old + read
+  pub len : ℕ
+  pub spans : old.reading.policy ≡ None → (layout : Layout) → MayBe new.reading.layout layout → old.reading.bom + (kept_len old + read - kept_len new) ≡ new.reading.bom + (length (encoded layout (characters passed)) + len)
   pub same : SameKind old.reading new.reading
   pub to : new.to ≡ old.to
-  pub ends : EndsFeed old.reading new.reading input last read passed room end
+  pub mark : (end ≡ NoSpace → ⊥) → new.bom ≡ false
+  pub ends : EndsFeed old.reading new.reading input last read len room end

@@ -3,3 +3,7 @@ pub mod Positions
 pub mod Readings
 pub mod Steps
 pub mod Converting
+pub mod Converted
+pub mod Streams
+pub mod Printed
+pub mod Statements

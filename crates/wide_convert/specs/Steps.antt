@@ -7,7 +7,9 @@ use Rattle.wide_forms.specs.Segmentation.{Item, Char, Fault}
 use Rattle.wide_unit.specs.CodePoints.{code_points}
 use Rattle.wide_schemes.specs.Layouts.{IsBeginning, MayFollow, encoded, items_in, unit_len}
 use Rattle.wide_schemes.specs.Schemes.{bom_len, items_from, layout_from, start_len}
+use Rattle.wide_forms.specs.declared.policy.Policy.{Policy}
 use Rattle.wide_schemes.specs.declared.layout.Layout.{Layout}
+use Rattle.wide_schemes.specs.declared.scheme.Scheme.{Scheme}
 use Rattle.wide_convert.specs.Positions.{IsAfter, IsPosition}
 use Rattle.wide_convert.specs.Texts.{text_by}
 use Rattle.wide_convert.specs.declared.reading.Reading.{Reading}
@@ -37,6 +39,18 @@ pub record IsReading (reading : Reading) : Type 0 where
   pub start : reading.layout ≡ None → (reading.after_high ≡ false) × (reading.unread_len ≤ start_len reading.scheme)
   pub no_bom : reading.layout ≡ None → reading.bom ≡ 0
   pub fits : IsPosition reading.position
+
+-- Nothing was read of a text in the scheme.
+pub record IsUnread (scheme : Scheme) (keeps : Bool) (policy : Option Policy) (reading : Reading) : Type 0 where
+  pub in_scheme : reading.scheme ≡ scheme
+  pub halves : reading.keeps ≡ keeps
+  pub by_policy : reading.policy ≡ policy
+  pub no_fault : reading.after_fault ≡ false
+  pub no_layout : reading.layout ≡ None
+  pub none : reading.unread_len ≡ 0
+  pub no_bom : reading.bom ≡ 0
+  pub start : reading.position ≡ record { bytes = 0; items = 0; faults = 0 }
+  pub items : (more : List ℕ) → items_left reading more ≡ items_from scheme keeps more
 
 -- What does not change while a text is read.
 pub record SameKind (old new : Reading) : Type 0 where

@@ -4,9 +4,16 @@
 
 mod converter;
 mod counts;
+mod devices;
+mod error;
+pub mod laws;
 mod position;
 mod reading;
 mod steps;
 mod window;
 
+pub use converter::{ConvertProgress, Converter, ProgressEnd, TextFault};
+pub use devices::convert;
+pub use error::ConvertError;
 pub use position::Position;
+pub use reading::Reading;

@@ -1,9 +1,26 @@
 //! How much of a text was read.
 
 ghost use Rattle.std.specs.Prelude.{◌≡◌};
-ghost use Rattle.wide_convert.specs.Positions.{counted};
+ghost use Rattle.wide_convert.specs.Positions.{IsPosition, counted};
 
 /// A position in a text that is read: what precedes it. Each number stays at 2^64 - 1 if it would be greater.
+///
+/// # Example
+///
+/// ```
+/// use widestring::Policy;
+/// use widestring::convert::{Converter, Position, Scheme};
+///
+/// let mut text = [0; 16];
+/// let mut converter = Converter::new(Scheme::Utf8, Scheme::Utf16Le, Some(Policy::Each), false);
+/// let _progress = converter.push_last(b"a\xff\xffb", &mut text);
+/// let end = Position {
+///     bytes: 4,
+///     items: 4,
+///     faults: 2,
+/// };
+/// assert!(rt; converter.position() == end);
+/// ```
 #[derive(Clone, Copy, Debug, PartialEq, Eq)]
 pub struct Position {
     /// How many bytes precede it, those of a BOM included.
@@ -39,3 +56,8 @@ impl Position {
         }
     }
 }
+
+// States that the numbers of a position have 64 bits.
+pub(crate) fn position_fits(bytes: u64, items: u64, faults: u64)
+    ensures { IsPosition (record { bytes = bytes; items = items; faults = faults }) }
+{}

@@ -21,5 +21,5 @@ pub use progress::{DecodeStop, Decoding};
 pub use scheme::{Scheme, keeps_halves, layout_from, layout_to, start_len};
 pub use utf8::decode_utf8;
 pub use utf16::decode_utf16;
-pub use utf32::decode_utf32;
+pub use utf32::{decode_utf32, fill_units_32};
 pub use wtf8::decode_wtf8;

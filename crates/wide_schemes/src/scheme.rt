@@ -8,6 +8,18 @@ use crate::layout::Layout;
 use wide_bytes::{BoM, byte_order};
 
 /// An encoding scheme: how a text is stored as bytes (Unicode Standard, section 3.10, D95 to D101), or WTF-8.
+///
+/// # Example
+///
+/// ```
+/// use widestring::convert::{Scheme, convert};
+///
+/// let mut source = FromRead::new(b"\xfe\xff\0H\0i".as_slice());
+/// let mut sink = FromWrite::new(Vec::new(rt.alloc()));
+/// let (from, to) = (Scheme::Utf16, Scheme::Utf32Le);
+/// convert(&mut source, &mut sink, from, to, None, false)?;
+/// assert!(rt; sink.into_inner().as_slice() == b"H\0\0\0i\0\0\0".as_slice());
+/// ```
 #[derive(Clone, Copy, Debug, PartialEq, Eq)]
 pub enum Scheme {
     /// UTF-8 (D95). U+FEFF at the beginning is a character.

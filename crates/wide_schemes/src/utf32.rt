@@ -97,7 +97,7 @@ fn fill_big_32(bytes: &[u8], units: &mut [u32])
 /// # Requires
 ///
 /// `units` is at least a quarter as long as `bytes`, rounded down.
-pub(crate) fn fill_units_32(order: BoM, bytes: &[u8], units: &mut [u32])
+pub fn fill_units_32(order: BoM, bytes: &[u8], units: &mut [u32])
     requires { length bytes.now / 4 ≤ length units.old }
     ensures long { length units.new ≡ length units.old }
     ensures units { take (length bytes.now / 4) units.new ≡ units32_in order bytes.now }

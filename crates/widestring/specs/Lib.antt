@@ -102,3 +102,17 @@ pub use Rattle.wide_transcode.specs.Transcoded
 pub use Rattle.wide_bytes.specs.UnitsOfBytes
 pub use Rattle.wide_bytes.specs.Utf16OfBytes
 pub use Rattle.wide_include.specs.Include
+pub use Rattle.wide_schemes.specs.Wtf8
+pub use Rattle.wide_schemes.specs.Wtf8Items
+pub use Rattle.wide_schemes.specs.Layouts
+pub use Rattle.wide_schemes.specs.Schemes
+pub use Rattle.wide_wtf8.specs.Faults as Wtf8Faults
+pub use Rattle.wide_wtf8.specs.Statements as Wtf8Statements
+pub use Rattle.wide_wtf8.specs.Texts as Wtf8ErrorTexts
+pub use Rattle.wide_convert.specs.Texts as ConvertedTexts
+pub use Rattle.wide_convert.specs.Positions
+pub use Rattle.wide_convert.specs.Steps as ConvertedSteps
+pub use Rattle.wide_convert.specs.Converting
+pub use Rattle.wide_convert.specs.Converted as ConvertedBytes
+pub use Rattle.wide_convert.specs.Streams as ConvertedStreams
+pub use Rattle.wide_convert.specs.Printed as ConvertErrorTexts

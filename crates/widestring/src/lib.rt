@@ -5,6 +5,7 @@
 #![tactic(auto)]
 
 pub mod bytes;
+pub mod convert;
 pub mod edit;
 pub mod error;
 pub mod utfstring;
@@ -29,3 +30,4 @@ pub use wide_ustring::{U16String, U32String, WideString};
 pub use wide_utfstr as utfstr;
 pub use wide_utfstr::{Utf16Str, Utf32Str, WideUtfStr};
 pub use wide_utfstring::{Utf16String, Utf32String, WideUtfString};
+pub use wide_wtf8 as wtf8;

@@ -31,6 +31,7 @@ pub mod faults;
 pub mod idioms;
 pub mod lockstep;
 pub mod offsets32;
+pub mod schemes;
 pub mod searches;
 pub mod texts;
 pub mod words;

@@ -6,6 +6,7 @@ pub mod limited;
 mod sink;
 mod source;
 
+pub use devices::{next_seed, step_by};
 pub use limited::Limited;
 pub use sink::SlowSink;
 pub use source::SlowSource;

@@ -23,6 +23,17 @@ pub mod bytes_laws {
     pub use widestring::bytes::laws::{bytes_of_their_units, units_of_their_bytes, worked_units};
 }
 
+pub mod convert {
+    pub use widestring::convert::{
+        ConvertError, ConvertProgress, Converter, Layout, Position, ProgressEnd, Reading, Scheme,
+        TextFault, convert,
+    };
+}
+
+pub mod convert_laws {
+    pub use widestring::convert::laws::{fault_is_of_whole, pieces_are_whole, units_survive};
+}
+
 pub mod edit {
     pub use widestring::edit::{Edit, Marked16, Reply, Steps, Stopped, TextEdit, run, run_both};
 }
@@ -157,5 +168,18 @@ pub mod utfstring {
         U32StringInUtfstring, U32StringOverUtfstrs, UStringInUtfstring, UStringOverUtfstrs,
         Utf16StrInUtfstring, Utf16String, Utf32StrInUtfstring, Utf32String, UtfStrInUtfstring,
         UtfString, WideUtfString,
+    };
+}
+
+pub mod wtf8 {
+    pub use widestring::wtf8::{
+        FromWtf8, FromWtf8Error, ToWtf8, Wtf8Fault, append_wtf8, check_wtf8, from_wtf8, to_wtf8,
+        write_from_wtf8, write_wtf8, wtf8_len, wtf8_units_len,
+    };
+}
+
+pub mod wtf8_laws {
+    pub use widestring::wtf8::laws::{
+        faults_of_bytes, joined_texts, one_list_of_units, round_trips, text_of_well_formed,
     };
 }

@@ -20,9 +20,11 @@ mod matches;
 mod names;
 mod nocase;
 mod offsets;
+mod pieces;
 mod policies;
 mod prints;
 mod replaced;
+mod schemes;
 mod searches;
 mod sets;
 mod splits;
@@ -32,6 +34,7 @@ mod units;
 mod views;
 mod walks;
 mod width;
+mod wtf8;
 
 use sets::SetCalls;
 use std::alloc::Global;
@@ -68,12 +71,17 @@ static OF_CHARS: [(&str, OfChars); 5] = [
 enum OfBytes {
     Files,
     Transcode,
+    Pieces,
+    Wtf8,
     Include,
 }
 
-static OF_BYTES: [(&str, OfBytes); 2] = [
+static OF_BYTES: [(&str, OfBytes); 5] = [
     ("files", OfBytes::Files),
     ("transcode", OfBytes::Transcode),
+    ("convert", OfBytes::Transcode),
+    ("pieces", OfBytes::Pieces),
+    ("wtf8", OfBytes::Wtf8),
 ];
 
 // The decoders of units, whose questions are words of calls.
@@ -162,10 +170,20 @@ impl Suite for ViewSuite {
         if let Ok(group) = parse::named(&OF_BYTES, group) {
             return of_bytes(memory, answer, group, list, question);
         }
+        if group == "wtf8_of16" {
+            return wtf8_of(memory, answer, list, question);
+        }
         if (group == "to_string16") & (question == "i") {
             return of_bytes(memory, answer, OfBytes::Include, list, question);
         }
         of_units(memory, answer, group, list, question);
+    }
+}
+
+fn wtf8_of(memory: Memory<'_>, answer: &mut Answer, list: &str, question: &str) {
+    match parse::list::<u16>(memory.alloc, list) {
+        Ok(units) => wtf8::of_units(memory, answer, &units, question),
+        Err(error) => answer.fail(error),
     }
 }
 
@@ -203,6 +221,8 @@ fn with_bytes(
     match group {
         OfBytes::Files => files::of_bytes(memory, answer, bytes, question),
         OfBytes::Transcode => devices::run(memory.alloc, answer, bytes, question),
+        OfBytes::Pieces => pieces::run(memory.alloc, answer, bytes, question),
+        OfBytes::Wtf8 => wtf8::of_bytes(memory, answer, bytes, question),
         OfBytes::Include => conversions::file(memory, answer, bytes),
     }
 }

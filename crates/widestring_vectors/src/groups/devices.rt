@@ -1,19 +1,23 @@
-//! Runs of `transcode` and `transcode_with` between devices that are slow, move random numbers of bytes, or fail. The
-//! list is the bytes of the source, and a question has three words, separated by colons.
+//! Runs of `transcode`, `transcode_with` and `convert` between devices that are slow, move random numbers of bytes, or
+//! fail. The list is the bytes of the source, and a question has three words, separated by colons.
 //!
-//! - `s` and `l` for the modes of `transcode`, strict and lossy; `e`, `r` and `k` for the policies of `transcode_with`.
+//! - `s` and `l` for the modes of `transcode`, strict and lossy; `e`, `r` and `k` for the policies of `transcode_with`; a
+//!   conversion (`schemes.rt`) for `convert`.
 //! - How many bytes the source gives in a call, random numbers of them for 0, a comma, and after how many bytes it
 //!   fails, or a `-`.
 //! - How many bytes the sink takes in a call, a comma, after how many bytes it fails, or a `-`, and an `x` if it fails
 //!   by an error or a `z` if it fails by taking none.
 //!
-//! The answer has what was written, and as a second field `ok`, `odd`, `read`, `write`, or the index, the item number
-//! and the unit of the fault. It is a `?` if the flags of the devices contradict it.
+//! The answer has what was written, and as a second field `ok`, and after it for `convert` the number of faults; `odd`
+//! for part of a unit; `read`; `write`; or the index, for `convert` the offset in bytes, the item number and the unit of
+//! the fault. It is a `?` if the flags of the devices contradict it.
 ghost use Rattle.std.specs.Prelude.{◌≡◌, IfOk, false};
 
+use crate::groups::schemes::{self, Conversion};
 use std::alloc::Global;
 use widestring::Policy;
 use widestring::bytes::{ByteSink, ByteSource, Mode, transcode, transcode_with};
+use widestring::convert::{ConvertError, TextFault, convert};
 use widestring::error::TranscodeError;
 use widestring_replay::parse::{self, NoAnswer};
 use widestring_replay::show::Answer;
@@ -61,29 +65,71 @@ fn sink(alloc: Global, word: &str) -> Result<SlowSink, NoAnswer>
     }
 }
 
-fn show(answer: &mut Answer, ending: Result<(), TranscodeError>) {
+// How a run ended.
+#[derive(Clone, Copy, PartialEq, Eq)]
+enum Ending {
+    // All was read, and so many faults were replaced, where they are counted.
+    Whole(Option<u64>),
+    // All was read, and part of a unit is left.
+    Part,
+    // There is a fault.
+    Fault(TextFault),
+    // A device failed.
+    Read,
+    Write,
+    // The text is too long for the numbers of an error.
+    TooLong,
+}
+
+fn of_transcoding(ended: Result<(), TranscodeError>) -> Ending {
+    match ended {
+        Ok(()) => Ending::Whole(None),
+        Err(TranscodeError::OddLength) => Ending::Part,
+        Err(TranscodeError::Read) => Ending::Read,
+        Err(TranscodeError::Write) => Ending::Write,
+        Err(TranscodeError::Utf16 { index, item, unit }) => Ending::Fault(TextFault {
+            offset: index as u64,
+            item: item as u64,
+            unit: u32::from(unit),
+        }),
+        Err(TranscodeError::OutOfMemory) => Ending::TooLong,
+    }
+}
+
+fn of_conversion(ended: Result<u64, ConvertError>) -> Ending {
+    match ended {
+        Ok(faults) => Ending::Whole(Some(faults)),
+        Err(ConvertError::PartOfUnit) => Ending::Part,
+        Err(ConvertError::Read) => Ending::Read,
+        Err(ConvertError::Write) => Ending::Write,
+        Err(ConvertError::Fault(fault)) => Ending::Fault(fault),
+        Err(ConvertError::TooLong) => Ending::TooLong,
+    }
+}
+
+fn show(answer: &mut Answer, ending: Ending) {
     match ending {
-        Ok(()) => answer.word("ok"),
-        Err(TranscodeError::OddLength) => answer.word("odd"),
-        Err(TranscodeError::Read) => answer.word("read"),
-        Err(TranscodeError::Write) => answer.word("write"),
-        Err(TranscodeError::Utf16 { index, item, unit }) => {
-            answer.reported_fault(index, item, u32::from(unit))
+        Ending::Whole(None) => answer.word("ok"),
+        Ending::Whole(Some(faults)) => {
+            answer.word("ok");
+            answer.count(Some(faults as usize));
         }
-        Err(TranscodeError::OutOfMemory) => answer.fail(NoAnswer::OutOfMemory),
+        Ending::Part => answer.word("odd"),
+        Ending::Read => answer.word("read"),
+        Ending::Write => answer.word("write"),
+        Ending::Fault(fault) => {
+            answer.reported_fault(fault.offset as usize, fault.item as usize, fault.unit)
+        }
+        Ending::TooLong => answer.fail(NoAnswer::OutOfMemory),
     }
 }
 
 // Returns whether a device has failed only if its error is the result, and the source has ended if everything was read.
-fn is_flagged(
-    ending: Result<(), TranscodeError>,
-    source: &SlowSource<'_>,
-    sink: &SlowSink,
-) -> bool {
-    let mut well = source.failed() == (ending == Err(TranscodeError::Read));
-    well &= sink.failed() == (ending == Err(TranscodeError::Write));
+fn is_flagged(ending: Ending, source: &SlowSource<'_>, sink: &SlowSink) -> bool {
+    let mut well = source.failed() == (ending == Ending::Read);
+    well &= sink.failed() == (ending == Ending::Write);
     match ending {
-        Ok(()) | Err(TranscodeError::OddLength) => well & source.ended() & source.bytes.is_empty(),
+        Ending::Whole(_) | Ending::Part => well & source.ended() & source.bytes.is_empty(),
         _ => well,
     }
 }
@@ -93,6 +139,7 @@ fn is_flagged(
 enum Call {
     Transcode(Mode),
     TranscodeWith(Policy),
+    Convert(Conversion),
 }
 
 static CALLS: [(&str, Call); 5] = [
@@ -104,14 +151,22 @@ static CALLS: [(&str, Call); 5] = [
 ];
 
 // Makes a run.
-fn moved(call: Call, source: &mut SlowSource<'_>, sink: &mut SlowSink) -> Result<(), TranscodeError>
+fn moved(call: Call, source: &mut SlowSource<'_>, sink: &mut SlowSink) -> Ending
     requires source_unfailed { source.old.failed ≡ false }
     requires source_open { source.old.ended ≡ false }
     requires sink_unfailed { sink.old.failed ≡ false }
 {
     match call {
-        Call::Transcode(mode) => transcode(source, sink, mode),
-        Call::TranscodeWith(policy) => transcode_with(source, sink, policy),
+        Call::Transcode(mode) => of_transcoding(transcode(source, sink, mode)),
+        Call::TranscodeWith(policy) => of_transcoding(transcode_with(source, sink, policy)),
+        Call::Convert(
+            Conversion {
+                from,
+                to,
+                policy,
+                bom,
+            },
+        ) => of_conversion(convert(source, sink, from, to, policy, bom)),
     }
 }
 
@@ -146,7 +201,11 @@ fn run_from(alloc: Global, answer: &mut Answer, call: Call, source: SlowSource<'
 fn parse_run(question: &str) -> Result<(Call, &str, &str), NoAnswer> {
     let (call, devices) = parse::parts(question)?;
     let (from, to) = parse::parts(devices)?;
-    Ok((parse::named(&CALLS, call)?, from, to))
+    let call = match schemes::parse_conversion(call) {
+        Ok(conversion) => Call::Convert(conversion),
+        Err(_) => parse::named(&CALLS, call)?,
+    };
+    Ok((call, from, to))
 }
 
 // Makes the run of a call.

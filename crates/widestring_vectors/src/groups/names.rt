@@ -1,7 +1,7 @@
 //! The names of the groups.
 
 /// The groups, in the order in which they are printed.
-pub static GROUPS: [&str; 67] = [
+pub static GROUPS: [&str; 71] = [
     "items16",
     "items32",
     "lossy16",
@@ -45,6 +45,10 @@ pub static GROUPS: [&str; 67] = [
     "run32",
     "skip32",
     "transcode",
+    "convert",
+    "pieces",
+    "wtf8_of16",
+    "wtf8",
     "searches16",
     "searches32",
     "case16",

@@ -10,7 +10,8 @@ use Rattle.wide_convert.specs.Steps.{EndsStep, SameKind, Steps, fault_at, len_at
 use Rattle.wide_convert.specs.declared.reading.Reading.{Reading}
 use Rattle.wide_convert.specs.declared.steps.StepEnd.{StepEnd}
 use Rattle.wide_convert.specs.declared.steps.StepEnd.TheVariants.{More, NeedsInput, NoSpace, Fault as AtFault}
-use Rattle.wide_convert.proofs.Feeding.{SoFar, feeds-fault, feeds-input, so_far-none, so_far-then}
+use Rattle.wide_convert.specs.Streams.{SoFar}
+use Rattle.wide_convert.proofs.Feeding.{feeds-fault, feeds-input, so_far-none, so_far-then}
 use Rattle.wide_convert.proofs.converter.feed.Goals as goal
 
 pub loop-out-init : goal.loop-out-init

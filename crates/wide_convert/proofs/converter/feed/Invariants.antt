@@ -1,7 +1,7 @@
 use Rattle.std.proofs.Common.{◌≡◌, ◌+◌, ◌-◌, ◌≤◌, [], true, false, length, take}
 use Rattle.wide_schemes.specs.Layouts.{needs_text}
 use Rattle.wide_convert.specs.Steps.{IsReading, much_left}
-use Rattle.wide_convert.proofs.Feeding.{SoFar}
+use Rattle.wide_convert.specs.Streams.{SoFar}
 use Rattle.wide_convert.proofs.converter.feed.Given as goal
 
 -- The text of what was read so far was written.

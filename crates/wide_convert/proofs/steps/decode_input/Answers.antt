@@ -2,7 +2,7 @@ use Rattle.wide_schemes.proofs.Puts.{rest-slice}
 use Rattle.wide_convert.specs.Steps.{unread_of}
 use Rattle.wide_convert.specs.Readings.{PassesWindow}
 use Rattle.std.proofs.lemmas.List.{take_all}
-use Rattle.std.proofs.Common.{length-drop, length-append, length-take, ◌++◌, refl, ap, sym, ◌∙◌, drop, take, length-take-le, subst, arith, length, [], ◌+◌, ◌-◌, ◌≡◌, ◌≤◌, ℕ}
+use Rattle.std.proofs.Common.{length-drop, ◌++◌, ap, sym, ◌∙◌, drop, take, subst, arith, length, [], ◌-◌, ◌≡◌}
 use Rattle.wide_convert.proofs.Stepping.{input-steps, kept-steps, same-kept}
 use Rattle.wide_convert.proofs.steps.decode_input.Goals as goal
 

@@ -1,6 +1,6 @@
 use Rattle.wide_convert.specs.Readings.{PassesWindow}
 use Rattle.std.proofs.lemmas.List.{take_all, drop-append-le}
-use Rattle.std.proofs.Common.{◌-◌, ◌≤◌, length, length-take-le, take, sym, subst, arith, length-drop, length-append, length-take, ◌++◌, refl, ap, ◌∙◌, drop, ◌+◌, ◌≡◌, ℕ}
+use Rattle.std.proofs.Common.{◌-◌, ◌≤◌, length, length-take-le, take, sym, subst, arith, length-drop, length-append, length-take, ◌++◌, ap, ◌∙◌, drop, ◌+◌, ◌≡◌}
 use Rattle.wide_convert.specs.Steps.{Steps, unread_of}
 use Rattle.wide_convert.proofs.Stepping.{keeps-none, keeps-some, kept-steps, kept-then, same-kept}
 use Rattle.wide_convert.proofs.steps.decode_unread.Goals as goal

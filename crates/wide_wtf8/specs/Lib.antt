@@ -1,0 +1,9 @@
+pub mod Lengths
+pub mod Texts
+pub mod Faults
+pub mod Parts
+pub mod Laws
+pub mod Statements
+pub mod Prefixes
+pub mod Joins
+pub mod Halves
