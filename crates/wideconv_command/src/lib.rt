@@ -1,0 +1,21 @@
+//! The program `wideconv`, over any devices: it converts texts between encoding schemes.
+#![tactic(auto)]
+
+mod bom;
+mod files;
+mod forms;
+mod input;
+mod messages;
+mod output;
+mod program;
+mod request;
+mod text;
+
+pub use bom::{looks_like, scheme_by_bom};
+pub use forms::form_named;
+pub use input::Input;
+pub use messages::{FAILED, SUCCESS, USAGE, WRONG_USAGE, report};
+pub use output::Output;
+pub use program::command;
+pub use request::{Asked, Refusal, Request, parse};
+pub use text::{Conversion, TextError, convert_text};

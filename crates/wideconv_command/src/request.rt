@@ -1,0 +1,238 @@
+//! What the arguments ask for.
+
+use crate::forms::form_named;
+use std::fmt;
+use wide_forms::Policy;
+use wide_schemes::Scheme;
+
+/// Texts to convert or to look at.
+#[derive(Clone, Copy)]
+pub struct Request<'a> {
+    /// The scheme of the texts, or `None` if their BOM decides.
+    pub from: Option<Scheme>,
+    /// The scheme that is written.
+    pub to: Option<Scheme>,
+    /// What is written for faults, or `None` if the first one is an error.
+    pub policy: Option<Policy>,
+    /// Whether a BOM is written.
+    pub bom: bool,
+    /// Whether each fault is reported, and nothing is written.
+    pub check: bool,
+    /// Whether the units, characters, lines and faults are counted, and nothing is written.
+    pub stats: bool,
+    /// The file that is written, or `None` for standard output.
+    pub output: Option<&'a str>,
+}
+
+impl<'a> Request<'a> {
+    // Returns the request of no options.
+    fn new() -> Request<'a> {
+        Request {
+            from: None,
+            to: None,
+            policy: None,
+            bom: false,
+            check: false,
+            stats: false,
+            output: None,
+        }
+    }
+}
+
+/// What the arguments ask for.
+#[derive(Clone, Copy)]
+pub enum Asked<'a> {
+    /// To convert files, or standard input if there are none, or to look at them.
+    Texts(Request<'a>, &'a [String]),
+    /// To list the schemes.
+    List,
+    /// To describe the options.
+    Help,
+    /// To print the version.
+    Version,
+}
+
+/// Why the arguments ask for nothing.
+#[derive(Clone, Copy)]
+pub enum Refusal<'a> {
+    /// There is no such option.
+    UnknownOption(&'a str),
+    /// The option needs another argument after it.
+    NoValue(&'a str),
+    /// There is no scheme with this name.
+    UnknownForm(&'a str),
+    /// Nothing says which scheme to write.
+    NoTarget,
+    /// An option stands behind a file.
+    LateOption(&'a str),
+}
+
+impl fmt::Display for Refusal<'_> {
+    fn fmt<W: fmt::Write>(&self, f: &mut fmt::Formatter<W>) -> fmt::Result {
+        match self {
+            Refusal::UnknownOption(word) => write!(f, "unknown option '{word}'"),
+            Refusal::NoValue(word) => write!(f, "'{word}' needs an argument"),
+            Refusal::UnknownForm(word) => write!(f, "unknown form '{word}' (-l lists them)"),
+            Refusal::NoTarget => f.write_str("no form to write: -t FORM"),
+            Refusal::LateOption(word) => write!(f, "'{word}' stands behind a file"),
+        }
+    }
+}
+
+// An option.
+#[derive(Clone, Copy)]
+enum Word {
+    From,
+    To,
+    Output,
+    Lossy(Policy),
+    Bom,
+    Check,
+    Stats,
+    Files,
+    List,
+    Help,
+    Version,
+}
+
+// Each option.
+static WORDS: [(&str, Word); 16] = [
+    ("-f", Word::From),
+    ("-t", Word::To),
+    ("-o", Word::Output),
+    ("--lossy", Word::Lossy(Policy::Each)),
+    ("--lossy=each", Word::Lossy(Policy::Each)),
+    ("--lossy=run", Word::Lossy(Policy::Run)),
+    ("--lossy=skip", Word::Lossy(Policy::Skip)),
+    ("--bom", Word::Bom),
+    ("--check", Word::Check),
+    ("--stats", Word::Stats),
+    ("--", Word::Files),
+    ("-l", Word::List),
+    ("--list", Word::List),
+    ("-h", Word::Help),
+    ("--help", Word::Help),
+    ("--version", Word::Version),
+];
+
+// Returns the option that is this argument, or `None` if none is.
+fn word_named(argument: &str) -> Option<Word> {
+    for (name, word) in &WORDS {
+        if *name == argument {
+            return Some(*word);
+        }
+    }
+    None
+}
+
+// Returns the request with this option as well.
+fn with_word<'a>(request: Request<'a>, word: Word) -> Request<'a> {
+    match word {
+        Word::Lossy(policy) => Request {
+            policy: Some(policy),
+            ..request
+        },
+        Word::Bom => Request {
+            bom: true,
+            ..request
+        },
+        Word::Check => Request {
+            check: true,
+            ..request
+        },
+        Word::Stats => Request {
+            stats: true,
+            ..request
+        },
+        _ => request,
+    }
+}
+
+// Returns the request with this option and the argument after it.
+fn with_value<'a>(
+    request: Request<'a>,
+    word: Word,
+    value: &'a str,
+) -> Result<Request<'a>, Refusal<'a>> {
+    if let Word::Output = word {
+        return Ok(Request {
+            output: Some(value),
+            ..request
+        });
+    }
+    let Some(scheme) = form_named(value) else {
+        return Err(Refusal::UnknownForm(value));
+    };
+    Ok(match word {
+        Word::From => Request {
+            from: Some(scheme),
+            ..request
+        },
+        _ => Request {
+            to: Some(scheme),
+            ..request
+        },
+    })
+}
+
+// Returns the first argument that is an option, if there is one. `-` is standard input.
+fn late_option(files: &[String]) -> Option<&str> {
+    for file in files {
+        if file.as_str().len() > 1 && file.as_str().starts_with('-') {
+            return Some(file.as_str());
+        }
+    }
+    None
+}
+
+// Returns what a request of these files asks for.
+fn with_files<'a>(
+    request: Request<'a>,
+    files: &'a [String],
+    after_dashes: bool,
+) -> Result<Asked<'a>, Refusal<'a>> {
+    if request.to.is_none() && !request.check && !request.stats {
+        return Err(Refusal::NoTarget);
+    }
+    if !after_dashes {
+        if let Some(word) = late_option(files) {
+            return Err(Refusal::LateOption(word));
+        }
+    }
+    Ok(Asked::Texts(request, files))
+}
+
+/// Returns what the arguments ask for. The options come before the files, and the last one of a kind counts.
+///
+/// # Errors
+///
+/// Why they ask for nothing.
+pub fn parse(arguments: &[String]) -> Result<Asked<'_>, Refusal<'_>> {
+    let mut request = Request::new();
+    let mut rest = arguments;
+    'arguments: while let [argument, others @ ..] = rest {
+        let argument = argument.as_str();
+        let Some(word) = word_named(argument) else {
+            if argument.len() > 1 && argument.starts_with('-') {
+                return Err(Refusal::UnknownOption(argument));
+            }
+            return with_files(request, rest, false);
+        };
+        rest = others;
+        match word {
+            Word::List => return Ok(Asked::List),
+            Word::Help => return Ok(Asked::Help),
+            Word::Version => return Ok(Asked::Version),
+            Word::Files => return with_files(request, rest, true),
+            Word::From | Word::To | Word::Output => {
+                let [value, others @ ..] = rest else {
+                    return Err(Refusal::NoValue(argument));
+                };
+                request = with_value(request, word, value.as_str())?;
+                rest = others;
+            }
+            _ => request = with_word(request, word),
+        }
+    }
+    with_files(request, rest, false)
+}
