@@ -1,8 +1,22 @@
--- The bytes that a source with a beginning still gives.
-use Rattle.std.specs.Prelude.{ℕ, Bool, true, false, List, Option, Some}
+-- A source whose beginning can be looked at.
+use Rattle.std.specs.Prelude.{ℕ, Bool, true, false, List, Option, Some, drop, take}
 use Rattle.std.specs.Io.KnownBytes.{prepend_known}
+use Rattle.wideconv_command.specs.declared.input.Input.{Input}
 
--- The beginning that was not taken, and what the source has left. A source that has ended has nothing left.
+-- The source below, which gives what follows the beginning.
+abbrev pub source_of : {S : Type 0} → Input S → S
+source_of input = input.source
+
+-- The bytes that were looked at and not taken.
+abbrev pub head_of : {S : Type 0} → Input S → List ℕ
+head_of input = drop input.from (take input.end input.head)
+
+-- A take with a buffer that is not empty has returned 0.
+abbrev pub has_taken_end : {S : Type 0} → Input S → Bool
+has_taken_end input = input.ended
+
+-- The bytes that are left: those that were looked at, and what the source below has left, which is nothing if it has
+-- ended.
 abbrev pub left_of : List ℕ → Bool → Option (List ℕ) → Option (List ℕ)
 left_of head true left = Some head
 left_of head false left = prepend_known head left

@@ -8,14 +8,8 @@ use std::{fs, io};
 // How many names are tried for a file that does not exist.
 const NAMES: u32 = 100;
 
-/// A file that is being written.
-#[derive(Drop)]
-pub struct Written<F> {
-    /// The file.
-    pub file: F,
-    /// The names of the file until it is complete, and then; or `None` if it is written in place.
-    pub names: Option<(String, String)>,
-}
+// A file that is being written, and its names until it is complete and then, or `None` if it is written in place.
+type Written<F> = (F, Option<(String, String)>);
 
 // Creates a file beside this one, which has another name.
 fn create_part<R: Files + AllocGlobal>(rt: &R, path: &str) -> io::Result<Written<R::File>> {
@@ -28,10 +22,7 @@ fn create_part<R: Files + AllocGlobal>(rt: &R, path: &str) -> io::Result<Written
         {
             Ok(file) => {
                 let path = path.to_string(rt.alloc())?;
-                return Ok(Written {
-                    file,
-                    names: Some((part, path)),
-                });
+                return Ok((file, Some((part, path))));
             }
             Err(error) if error.kind() == ErrorKind::AlreadyExists => {}
             Err(error) => return Err(error),
@@ -40,7 +31,7 @@ fn create_part<R: Files + AllocGlobal>(rt: &R, path: &str) -> io::Result<Written
     Err(io::Error::from(ErrorKind::AlreadyExists))
 }
 
-/// Begins to write a file. One that exists stays as it is until [`finish`]. What is no regular file, such as a device,
+/// Begins to write a file, and returns it with what [`finish`] needs. One that exists stays as it is until [`finish`]. What is no regular file, such as a device,
 /// is written in place.
 ///
 /// # Errors
@@ -52,12 +43,12 @@ pub fn begin<R: Files + AllocGlobal>(rt: &R, path: &str) -> io::Result<Written<R
     };
     if !old.is_file() {
         let file = OpenOptions::new().write(true).open(rt, path)?;
-        return Ok(Written { file, names: None });
+        return Ok((file, None));
     }
     let target = fs::canonicalize(rt, path)?;
-    let written = create_part(rt, target.as_path().as_str())?;
-    let _ = written.file.set_permissions(old.permissions());
-    Ok(written)
+    let (file, names) = create_part(rt, target.as_path().as_str())?;
+    let _ = file.set_permissions(old.permissions());
+    Ok((file, names))
 }
 
 /// Ends a file, which has its name only if it is complete. Otherwise it is removed.

@@ -1,6 +1,8 @@
-//! A source that gives its beginning again, and remembers why it failed.
+//! A source whose beginning can be looked at, and that remembers why it failed.
 
-ghost use Rattle.std.specs.Prelude.{◌≡◌, ◌++◌, ◌-◌, ◌≤◌, drop, length, take};
+ghost use Rattle.std.specs.Prelude.{◌≡◌, false, true, [], IfOk, IfErr, drop};
+ghost use Rattle.std.specs.Io.KnownBytes.{Keeps};
+ghost use Rattle.wideconv_command.specs.Inputs.{has_taken_end, head_of, left_of, source_of};
 
 use std::io;
 use wide_bytes::ByteSource;
@@ -30,7 +32,11 @@ pub struct Input<S> {
 
 impl<S: ByteSource> Input<S> {
     /// Creates a source of the same bytes.
-    pub fn new(source: S) -> Input<S> {
+    pub fn new(source: S) -> Input<S>
+        ensures source { source_of result ≡ source }
+        ensures head { head_of result ≡ [] }
+        ensures ended { has_taken_end result ≡ false }
+    {
         Input {
             source,
             head: [0; HEAD_LEN],
@@ -41,32 +47,56 @@ impl<S: ByteSource> Input<S> {
         }
     }
 
+    // Returns the bytes that were looked at and not taken.
+    fn rest(&self) -> &[u8]
+        ensures { result.now ≡ head_of self.now }
+    {
+        let end = self.end.min(HEAD_LEN);
+        let from = self.from.min(end);
+        &self.head[from..end]
+    }
+
     /// Reads until the bytes are there that decide which scheme a BOM belongs to, or none are left, and returns those
     /// that were read. They are still to be taken.
+    ///
+    /// # Requires
+    ///
+    /// The source has neither failed nor ended.
     ///
     /// # Errors
     ///
     /// If the source fails.
-    pub fn look(&mut self) -> io::Result<&[u8]> {
+    pub fn look(&mut self) -> io::Result<&[u8]>
+        requires source_unfailed { S.has_failed (source_of self.old) ≡ false }
+        ensures left { Keeps (left_of (head_of self.old) (S.has_ended (source_of self.old)) (S.left (source_of self.old))) (left_of (head_of self.new) (S.has_ended (source_of self.new)) (S.left (source_of self.new))) }
+        ensures head { IfOk result (λ head. head.now ≡ head_of self.new) }
+        ensures failed { IfOk result (λ head. S.has_failed (source_of self.new) ≡ false) }
+        ensures error { IfErr result (λ error. S.has_failed (source_of self.new) ≡ true) }
+        ensures ended { has_taken_end self.new ≡ has_taken_end self.old }
+    {
         for _ in 0..BOM_LEN {
-            if self.end >= BOM_LEN || self.source.ended() {
+            let end = self.end.min(HEAD_LEN);
+            if end >= BOM_LEN || self.source.ended() {
                 break;
             }
-            let end = self.end;
             match self.source.take(&mut self.head[end..]) {
-                Ok(len) => self.end += len,
+                Ok(len) => self.end = end + len,
                 Err(error) => {
                     self.code = error.raw_os_error().unwrap_or(0);
                     return Err(error);
                 }
             }
         }
-        Ok(&self.head[self.from..self.end])
+        Ok(self.rest())
     }
 
-    /// Passes the next bytes of those that were looked at.
-    pub fn skip(&mut self, len: usize) {
-        self.from = self.end.min(self.from.saturating_add(len));
+    /// Passes this many of the bytes that were looked at, or all of them if there are fewer.
+    pub fn skip(&mut self, len: usize)
+        ensures head { head_of self.new ≡ drop len (head_of self.old) }
+        ensures source { source_of self.new ≡ source_of self.old }
+        ensures ended { has_taken_end self.new ≡ has_taken_end self.old }
+    {
+        self.from = self.from.saturating_add(len);
     }
 
     /// Returns the number of the system's error at which the source failed, or 0 if it has none.
@@ -76,23 +106,24 @@ impl<S: ByteSource> Input<S> {
 }
 
 impl<S: ByteSource> ByteSource for Input<S> {
-    ghost use Rattle.wideconv_command.specs.Inputs.{left_of};
+    ghost use Rattle.wideconv_command.specs.Inputs.{has_taken_end, head_of, left_of, source_of};
 
-    ghost left = { λ input. left_of (drop input.from (take input.end input.head)) (S.has_ended input.source) (S.left input.source) };
+    ghost left = { λ input. left_of (head_of input) (S.has_ended (source_of input)) (S.left (source_of input)) };
 
-    ghost has_failed = { λ input. S.has_failed input.source };
+    ghost has_failed = { λ input. S.has_failed (source_of input) };
 
-    ghost has_ended = { λ input. input.ended };
+    ghost has_ended = { λ input. has_taken_end input };
 
     fn take(&mut self, buf: &mut [u8]) -> io::Result<usize> {
-        if self.from < self.end {
-            let len = buf.len().min(self.end - self.from);
-            buf[..len].copy_from_slice(&self.head[self.from..self.from + len]);
-            self.from += len;
+        let rest = self.rest();
+        if !rest.is_empty() {
+            let len = buf.len().min(rest.len());
+            buf[..len].copy_from_slice(&rest[..len]);
+            self.skip(len);
             return Ok(len);
         }
         if self.source.ended() {
-            self.ended |= !buf.is_empty();
+            self.ended = !buf.is_empty();
             return Ok(0);
         }
         let result = self.source.take(buf);

@@ -2,6 +2,7 @@
 #![tactic(auto)]
 
 mod bom;
+mod examine;
 mod files;
 mod forms;
 mod input;
@@ -9,13 +10,16 @@ mod messages;
 mod output;
 mod program;
 mod request;
+mod tally;
 mod text;
 
 pub use bom::{looks_like, scheme_by_bom};
+pub use examine::{Examined, examine};
 pub use forms::form_named;
 pub use input::Input;
 pub use messages::{FAILED, SUCCESS, USAGE, WRONG_USAGE, report};
 pub use output::Output;
 pub use program::command;
 pub use request::{Asked, Refusal, Request, parse};
-pub use text::{Conversion, TextError, convert_text};
+pub use tally::Tally;
+pub use text::{Conversion, TextError, convert_text, open_text};

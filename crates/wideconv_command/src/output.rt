@@ -1,5 +1,8 @@
 //! A sink that remembers why it failed.
 
+ghost use Rattle.std.specs.Prelude.{◌≡◌};
+ghost use Rattle.wideconv_command.specs.Outputs.{sink_of};
+
 use std::io;
 use wide_bytes::ByteSink;
 
@@ -14,7 +17,9 @@ pub struct Output<K> {
 
 impl<K: ByteSink> Output<K> {
     /// Creates a sink that puts its bytes into another one.
-    pub fn new(sink: K) -> Output<K> {
+    pub fn new(sink: K) -> Output<K>
+        ensures { sink_of result ≡ sink }
+    {
         Output { sink, code: 0 }
     }
 
@@ -24,15 +29,19 @@ impl<K: ByteSink> Output<K> {
     }
 
     /// Returns the sink.
-    pub fn into_inner(self) -> K {
+    pub fn into_inner(self) -> K
+        ensures { result ≡ sink_of self }
+    {
         self.sink
     }
 }
 
 impl<K: ByteSink> ByteSink for Output<K> {
-    ghost held = { λ output. K.held output.sink };
+    ghost use Rattle.wideconv_command.specs.Outputs.{sink_of};
 
-    ghost has_failed = { λ output. K.has_failed output.sink };
+    ghost held = { λ output. K.held (sink_of output) };
+
+    ghost has_failed = { λ output. K.has_failed (sink_of output) };
 
     fn put(&mut self, bytes: &[u8]) -> io::Result<usize> {
         let result = self.sink.put(bytes);

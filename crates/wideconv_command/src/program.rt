@@ -1,5 +1,10 @@
 //! The program `wideconv`, over any devices.
 
+ghost use Rattle.std.specs.Prelude.{◌≡◌, false};
+ghost use Rattle.wideconv_command.specs.Inputs.{has_taken_end, source_of};
+ghost use Rattle.wideconv_command.specs.Outputs.{sink_of};
+
+use crate::examine::{Total, examine, put_line};
 use crate::files::{begin, finish};
 use crate::input::Input;
 use crate::messages::{
@@ -12,150 +17,204 @@ use std::fs;
 use std::rt::Files;
 use wide_bytes::{ByteSink, ByteSource, FromRead, FromWrite, put_all};
 use wide_convert::ConvertError;
-use wide_schemes::Scheme;
 
 // What messages call standard input and standard output.
 const INPUT_NAME: &str = "standard input";
 
 const OUTPUT_NAME: &str = "standard output";
 
-// Converts one text, and reports why it failed. Returns whether it did not.
-fn convert_one<S: ByteSource, K: ByteSink, F: ByteSink>(
+// Writes the lines on faults of one text, or what it has. Returns whether it has no fault that is reported.
+fn examine_text<S: ByteSource, K: ByteSink>(
     source: &mut Input<S>,
-    sink: &mut Output<K>,
-    faults: &mut F,
-    conversion: Conversion,
-    names: (&str, &str),
-) -> bool {
-    match convert_text(source, sink, conversion) {
-        Ok(_) => true,
-        Err(error @ TextError::Stopped(ConvertError::Write)) => {
-            report_system(faults, names.1, &error, sink.code());
-            false
-        }
-        Err(error @ TextError::Stopped(ConvertError::Read)) => {
-            report_system(faults, names.0, &error, source.code());
-            false
-        }
-        Err(error) => {
-            report(faults, names.0, &error);
-            false
-        }
-    }
-}
-
-// Converts the files, or standard input if there are none, up to the first that fails. Returns whether none did.
-fn convert_files<R: Files, S: ByteSource, K: ByteSink, F: ByteSink>(
-    rt: &R,
-    files: &[String],
-    conversion: Conversion,
-    input: &mut Input<S>,
-    sink: &mut Output<K>,
-    output_name: &str,
-    faults: &mut F,
-) -> bool {
-    if files.is_empty() {
-        return convert_one(input, sink, faults, conversion, (INPUT_NAME, output_name));
-    }
-    let mut bom = conversion.bom;
-    for file in files {
-        let name = file.as_str();
-        let conversion = Conversion { bom, ..conversion };
-        bom = false;
-        let is_done = if name == "-" {
-            input.ended() || convert_one(input, sink, faults, conversion, (INPUT_NAME, output_name))
-        } else {
-            match fs::open(rt, name) {
-                Ok(file) => {
-                    let mut source = Input::new(FromRead::new(file));
-                    convert_one(&mut source, sink, faults, conversion, (name, output_name))
-                }
-                Err(error) => {
-                    report(faults, name, &error);
-                    false
-                }
-            }
-        };
-        if !is_done {
-            return false;
-        }
-    }
-    true
-}
-
-// Converts files into a file, which is replaced only if all went well. Returns whether it did.
-fn convert_into<R: Files + AllocGlobal, S: ByteSource, F: ByteSink>(
-    rt: &R,
-    files: &[String],
-    conversion: Conversion,
-    path: &str,
-    input: &mut Input<S>,
-    faults: &mut F,
-) -> bool {
-    let written = match begin(rt, path) {
-        Ok(written) => written,
-        Err(error) => {
-            report(faults, path, &error);
-            return false;
-        }
-    };
-    let mut sink = Output::new(FromWrite::new(written.file));
-    let is_done = convert_files(rt, files, conversion, input, &mut sink, path, faults);
-    let file = sink.into_inner().into_inner();
-    match finish(rt, file, written.names, is_done) {
-        Ok(()) => is_done,
-        Err(error) => {
-            report(faults, path, &error);
-            false
-        }
-    }
-}
-
-// Writes a text. Returns the exit status.
-fn print<K: ByteSink, F: ByteSink>(sink: &mut Output<K>, faults: &mut F, text: &str) -> u8 {
-    if let Err(error) = put_all(sink, text.as_bytes()) {
-        report_system(faults, OUTPUT_NAME, &error, sink.code());
-        return FAILED;
-    }
-    SUCCESS
-}
-
-// Converts texts, and returns the exit status.
-fn convert_texts<R: Files + AllocGlobal, S: ByteSource, K: ByteSink, F: ByteSink>(
-    rt: &R,
+    sink: &mut K,
     request: Request<'_>,
-    to: Scheme,
-    files: &[String],
-    input: &mut Input<S>,
-    sink: &mut Output<K>,
-    faults: &mut F,
-) -> u8 {
+    name: &str,
+) -> Result<bool, TextError>
+    requires source_unfailed { S.has_failed (source_of source.old) ≡ false }
+    requires source_open { has_taken_end source.old ≡ false }
+    requires sink_unfailed { K.has_failed sink.old ≡ false }
+{
+    let examined = examine(source, sink, request.from, name, request.check)?;
+    if request.stats {
+        put_line(sink, name, &examined)?;
+    }
+    if request.check && examined.faults > 0 {
+        put_line(sink, name, &Total(examined.faults))?;
+    }
+    Ok(!request.check || examined.faults == 0)
+}
+
+// Converts one text or looks at it. Returns whether all went well.
+fn run_text<S: ByteSource, K: ByteSink>(
+    source: &mut Input<S>,
+    sink: &mut K,
+    request: Request<'_>,
+    name: &str,
+) -> Result<bool, TextError>
+    requires source_unfailed { S.has_failed (source_of source.old) ≡ false }
+    requires source_open { has_taken_end source.old ≡ false }
+    requires sink_unfailed { K.has_failed sink.old ≡ false }
+{
+    let Some(to) = request.to else {
+        return examine_text(source, sink, request, name);
+    };
     let conversion = Conversion {
         from: request.from,
         to,
         policy: request.policy,
         bom: request.bom,
     };
-    let is_done = match request.output {
-        Some(path) => convert_into(rt, files, conversion, path, input, faults),
-        None => convert_files(rt, files, conversion, input, sink, OUTPUT_NAME, faults),
+    match convert_text(source, sink, conversion) {
+        Ok(_faults) => Ok(true),
+        Err(error) => Err(error),
+    }
+}
+
+// Converts one text or looks at it, and reports why it was not read or written to its end. Returns whether all went
+// well.
+fn run_one<S: ByteSource, K: ByteSink, F: ByteSink>(
+    source: &mut Input<S>,
+    sink: &mut Output<K>,
+    faults: &mut F,
+    request: Request<'_>,
+    name: &str,
+) -> bool
+    requires source_unfailed { S.has_failed (source_of source.old) ≡ false }
+    requires source_open { has_taken_end source.old ≡ false }
+    requires sink_unfailed { K.has_failed (sink_of sink.old) ≡ false }
+{
+    match run_text(source, sink, request, name) {
+        Ok(is_well) => is_well,
+        Err(error @ TextError::Stopped(ConvertError::Write)) => {
+            let name = request.output.unwrap_or(OUTPUT_NAME);
+            report_system(faults, name, &error, sink.code());
+            false
+        }
+        Err(error) => {
+            report_system(faults, name, &error, source.code());
+            false
+        }
+    }
+}
+
+// Opens a file, and converts it or looks at it. Returns whether all went well.
+fn run_file<R: Files, S: ByteSource, K: ByteSink, F: ByteSink>(
+    rt: &R,
+    file: &str,
+    input: &mut Input<S>,
+    sink: &mut Output<K>,
+    faults: &mut F,
+    request: Request<'_>,
+) -> bool
+    requires input_unfailed { S.has_failed (source_of input.old) ≡ false }
+    requires sink_unfailed { K.has_failed (sink_of sink.old) ≡ false }
+{
+    if file == "-" {
+        return input.ended() || run_one(input, sink, faults, request, INPUT_NAME);
+    }
+    match fs::open(rt, file) {
+        Ok(opened) => {
+            let mut source = Input::new(FromRead::new(opened));
+            run_one(&mut source, sink, faults, request, file)
+        }
+        Err(error) => {
+            report(faults, file, &error);
+            false
+        }
+    }
+}
+
+// Converts the files, up to the first that fails, or looks at each. Without a file it is standard input. Returns
+// whether all went well.
+fn run_files<R: Files, S: ByteSource, K: ByteSink, F: ByteSink>(
+    rt: &R,
+    files: &[String],
+    input: &mut Input<S>,
+    sink: &mut Output<K>,
+    faults: &mut F,
+    request: Request<'_>,
+) -> bool
+    requires input_unfailed { S.has_failed (source_of input.old) ≡ false }
+    requires input_open { has_taken_end input.old ≡ false }
+    requires sink_unfailed { K.has_failed (sink_of sink.old) ≡ false }
+{
+    if files.is_empty() {
+        return run_one(input, sink, faults, request, INPUT_NAME);
+    }
+    let mut is_well = true;
+    let mut request = request;
+    for file in files {
+        if sink.failed() || input.failed() || !is_well && request.to.is_some() {
+            return false;
+        }
+        is_well &= run_file(rt, file.as_str(), input, sink, faults, request);
+        // The text of all files has one BOM.
+        request.bom = false;
+    }
+    is_well
+}
+
+// Converts files into a file, which is replaced only if all went well. Returns whether it did.
+fn run_into<R: Files + AllocGlobal, S: ByteSource, F: ByteSink>(
+    rt: &R,
+    files: &[String],
+    input: &mut Input<S>,
+    path: &str,
+    faults: &mut F,
+    request: Request<'_>,
+) -> bool
+    requires input_unfailed { S.has_failed (source_of input.old) ≡ false }
+    requires input_open { has_taken_end input.old ≡ false }
+{
+    let (file, names) = match begin(rt, path) {
+        Ok(written) => written,
+        Err(error) => {
+            report(faults, path, &error);
+            return false;
+        }
     };
-    if is_done { SUCCESS } else { FAILED }
+    let mut sink = Output::new(FromWrite::new(file));
+    let is_well = run_files(rt, files, input, &mut sink, faults, request);
+    let file = sink.into_inner().into_inner();
+    match finish(rt, file, names, is_well) {
+        Ok(()) => is_well,
+        Err(error) => {
+            report(faults, path, &error);
+            false
+        }
+    }
+}
+
+// Writes a text. Returns whether it was written.
+fn print<K: ByteSink, F: ByteSink>(sink: &mut Output<K>, faults: &mut F, text: &str) -> bool
+    requires sink_unfailed { K.has_failed (sink_of sink.old) ≡ false }
+{
+    match put_all(sink, text.as_bytes()) {
+        Ok(()) => true,
+        Err(error) => {
+            report_system(faults, OUTPUT_NAME, &error, sink.code());
+            false
+        }
+    }
 }
 
 /// Runs the program with the arguments after its name, and returns the exit status: 0 after success, 1 after an error,
-/// whose message is a line on `faults`, and 2 after a usage error.
+/// whose message is a line on `faults`, or if faults were reported, and 2 after a usage error.
 pub fn command<R: Files + AllocGlobal, S: ByteSource, K: ByteSink, F: ByteSink>(
     rt: &R,
     arguments: &[String],
     input: &mut Input<S>,
     sink: &mut Output<K>,
     faults: &mut F,
-) -> u8 {
-    match parse(arguments) {
-        Ok(Asked::Texts(request, files)) => match request.to {
-            Some(to) => convert_texts(rt, request, to, files, input, sink, faults),
-            None => SUCCESS,
+) -> u8
+    requires input_unfailed { S.has_failed (source_of input.old) ≡ false }
+    requires input_open { has_taken_end input.old ≡ false }
+    requires sink_unfailed { K.has_failed (sink_of sink.old) ≡ false }
+{
+    let is_well = match parse(arguments) {
+        Ok(Asked::Texts(request, files)) => match request.output {
+            Some(path) => run_into(rt, files, input, path, faults, request),
+            None => run_files(rt, files, input, sink, faults, request),
         },
         Ok(Asked::List) => print(sink, faults, FORMS_LIST),
         Ok(Asked::Help) => print(sink, faults, HELP),
@@ -163,7 +222,8 @@ pub fn command<R: Files + AllocGlobal, S: ByteSource, K: ByteSink, F: ByteSink>(
         Err(refusal) => {
             report(faults, "", &refusal);
             report(faults, "", &USAGE);
-            WRONG_USAGE
+            return WRONG_USAGE;
         }
-    }
+    };
+    if is_well { SUCCESS } else { FAILED }
 }

@@ -63,6 +63,8 @@ pub enum Refusal<'a> {
     UnknownForm(&'a str),
     /// Nothing says which scheme to write.
     NoTarget,
+    /// An option of texts that are written stands beside one of texts that are only read.
+    Mixed,
     /// An option stands behind a file.
     LateOption(&'a str),
 }
@@ -74,6 +76,7 @@ impl fmt::Display for Refusal<'_> {
             Refusal::NoValue(word) => write!(f, "'{word}' needs an argument"),
             Refusal::UnknownForm(word) => write!(f, "unknown form '{word}' (-l lists them)"),
             Refusal::NoTarget => f.write_str("no form to write: -t FORM"),
+            Refusal::Mixed => f.write_str("--check and --stats write no text"),
             Refusal::LateOption(word) => write!(f, "'{word}' stands behind a file"),
         }
     }
@@ -191,7 +194,12 @@ fn with_files<'a>(
     files: &'a [String],
     after_dashes: bool,
 ) -> Result<Asked<'a>, Refusal<'a>> {
-    if request.to.is_none() && !request.check && !request.stats {
+    let examines = request.check || request.stats;
+    let writes = request.to.is_some() || request.output.is_some();
+    if examines && (writes || request.policy.is_some() || request.bom) {
+        return Err(Refusal::Mixed);
+    }
+    if request.to.is_none() && !examines {
         return Err(Refusal::NoTarget);
     }
     if !after_dashes {

@@ -1,5 +1,11 @@
 //! Converts one text.
 
+ghost use Rattle.std.specs.Prelude.{◌≡◌, ℕ, List, Some, Ok, false, IfOk};
+ghost use Rattle.wide_schemes.specs.declared.scheme.Scheme.{Scheme};
+ghost use Rattle.wide_transcode.specs.Run.{Moves};
+ghost use Rattle.wideconv_command.specs.Inputs.{has_taken_end, head_of, left_of, source_of};
+ghost use Rattle.wideconv_command.specs.Texts.{EndsText, error_behind};
+
 use crate::bom::{looks_like, scheme_by_bom};
 use crate::input::Input;
 use std::fmt;
@@ -42,7 +48,9 @@ pub struct Conversion {
 }
 
 // Returns the error with the offset in a text of which so many bytes were passed.
-fn moved_by(error: ConvertError, passed: usize) -> ConvertError {
+fn moved_by(error: ConvertError, passed: usize) -> ConvertError
+    ensures { result ≡ error_behind passed error }
+{
     match error {
         ConvertError::Fault(fault) => ConvertError::Fault(TextFault {
             offset: fault.offset.saturating_add(passed as u64),
@@ -50,6 +58,34 @@ fn moved_by(error: ConvertError, passed: usize) -> ConvertError {
         }),
         error => error,
     }
+}
+
+/// Returns the scheme of a text and, if its BOM was passed, the length of that in bytes.
+///
+/// # Errors
+///
+/// If the text has no BOM, or the source fails.
+pub fn open_text<S: ByteSource>(
+    source: &mut Input<S>,
+    from: Option<Scheme>,
+) -> Result<(Scheme, usize), TextError>
+    requires source_unfailed { S.has_failed (source_of source.old) ≡ false }
+    requires source_open { has_taken_end source.old ≡ false }
+    ensures unfailed { IfOk result (λ opened. S.has_failed (source_of source.new) ≡ false) }
+    ensures open { has_taken_end source.new ≡ false }
+    ensures known { (scheme : Scheme) → from ≡ Some scheme → (result ≡ Ok (scheme, 0)) × (source.new ≡ source.old) }
+{
+    if let Some(scheme) = from {
+        return Ok((scheme, 0));
+    }
+    let Ok(head) = source.look() else {
+        return Err(TextError::Stopped(ConvertError::Read));
+    };
+    let Some(found) = scheme_by_bom(head) else {
+        return Err(TextError::NoBom(looks_like(head)));
+    };
+    source.skip(found.1);
+    Ok(found)
 }
 
 /// Converts a text from the source to its end into the sink, and returns how many faults were replaced.
@@ -61,26 +97,23 @@ pub fn convert_text<S: ByteSource, K: ByteSink>(
     source: &mut Input<S>,
     sink: &mut K,
     conversion: Conversion,
-) -> Result<u64, TextError> {
+) -> Result<u64, TextError>
+    requires source_unfailed { S.has_failed (source_of source.old) ≡ false }
+    requires source_open { has_taken_end source.old ≡ false }
+    requires sink_unfailed { K.has_failed sink.old ≡ false }
+
+    // With a scheme that is named, it is a run of `convert`.
+    ensures named { (scheme : Scheme) → conversion.from ≡ Some scheme → (bytes written : List ℕ)
+        × Moves (left_of (head_of source.old) (S.has_ended (source_of source.old)) (S.left (source_of source.old))) (left_of (head_of source.new) (S.has_ended (source_of source.new)) (S.left (source_of source.new))) (K.held sink.old) (K.held sink.new) bytes written
+        × EndsText scheme conversion 0 result (has_taken_end source.new) bytes written }
+{
     let Conversion {
         from,
         to,
         policy,
         bom,
     } = conversion;
-    let (from, passed) = match from {
-        Some(scheme) => (scheme, 0),
-        None => {
-            let Ok(head) = source.look() else {
-                return Err(TextError::Stopped(ConvertError::Read));
-            };
-            let Some(found) = scheme_by_bom(head) else {
-                return Err(TextError::NoBom(looks_like(head)));
-            };
-            found
-        }
-    };
-    source.skip(passed);
+    let (from, passed) = open_text(source, from)?;
     match convert(source, sink, from, to, policy, bom) {
         Ok(faults) => Ok(faults),
         Err(error) => Err(TextError::Stopped(moved_by(error, passed))),

@@ -1,0 +1,30 @@
+-- How converting a text ends.
+use Rattle.std.specs.Prelude.{◌≡◌, ℕ, ◌+◌, ◌^◌, ◌-◌, min, Bool, List, Option, Result, Ok, Err}
+use Rattle.wide_forms.specs.declared.policy.Policy.{Policy}
+use Rattle.wide_schemes.specs.declared.scheme.Scheme.{Scheme}
+use Rattle.wide_convert.specs.Converted.{EndsConverted}
+use Rattle.wide_convert.specs.declared.error.ConvertError.{ConvertError}
+use Rattle.wide_convert.specs.declared.error.ConvertError.TheVariants.{Fault, PartOfUnit, TooLong, Read, Write}
+use Rattle.wide_convert.specs.declared.converter.TextFault.{TextFault}
+use Rattle.wideconv_command.specs.declared.text.TextError.{TextError}
+use Rattle.wideconv_command.specs.declared.text.TextError.TheVariants.{NoBom, Stopped}
+use Rattle.wideconv_command.specs.declared.text.Conversion.{Conversion}
+
+-- A fault behind so many bytes that were passed before the text.
+abbrev pub fault_behind : ℕ → TextFault → TextFault
+fault_behind passed fault = record { offset = min (fault.offset + passed) (2 ^ 64 - 1); item = fault.item; unit = fault.unit }
+
+-- An error of a text before which so many bytes were passed.
+abbrev pub error_behind : ℕ → ConvertError → ConvertError
+error_behind passed (Fault fault) = Fault (fault_behind passed fault)
+error_behind passed PartOfUnit = PartOfUnit
+error_behind passed TooLong = TooLong
+error_behind passed Read = Read
+error_behind passed Write = Write
+
+-- How the conversion of a text ended that a scheme has, and before which so many bytes were passed: as a run of
+-- `convert` did.
+abbrev pub EndsText : Scheme → Conversion → ℕ → Result ℕ TextError → Bool → List ℕ → List ℕ → Type 0
+EndsText from by passed (Ok faults) ended bytes written = EndsConverted from by.to by.policy by.bom (Ok faults) ended bytes written
+EndsText from by passed (Err (NoBom form)) ended bytes written = ⊥
+EndsText from by passed (Err (Stopped error)) ended bytes written = (stop : ConvertError) × (error ≡ error_behind passed stop) × EndsConverted from by.to by.policy by.bom (Err stop) ended bytes written
