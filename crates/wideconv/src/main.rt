@@ -6,7 +6,7 @@ use std::process::ExitCode;
 use std::rt::Env;
 use std::{env, io};
 use wide_bytes::{FromRead, FromWrite};
-use wideconv_command::{FAILED, Input, Output, SUCCESS, USAGE, WRONG_USAGE, command, report};
+use wideconv_command::{FAILED, Input, Output, SUCCESS, USAGE, WRONG_USAGE, report, run};
 
 // Returns the arguments after the program's name.
 fn arguments<R: Env + AllocGlobal>(rt: &R) -> io::Result<Vec<String>> {
@@ -18,7 +18,7 @@ fn arguments<R: Env + AllocGlobal>(rt: &R) -> io::Result<Vec<String>> {
 }
 
 // Runs the command on the standard streams, and returns its exit status.
-fn run(rt: &HostRuntime) -> u8 {
+fn run_streams(rt: &HostRuntime) -> u8 {
     let mut faults = FromWrite::new(rt.stderr());
     let words = match arguments(rt) {
         Ok(words) => words,
@@ -33,7 +33,7 @@ fn run(rt: &HostRuntime) -> u8 {
     };
     let mut input = Input::new(FromRead::new(rt.stdin()));
     let mut sink = Output::new(FromWrite::new(rt.stdout()));
-    let status = command(rt, &words, &mut input, &mut sink, &mut faults);
+    let status = run(rt, &words, &mut input, &mut sink, &mut faults);
     if let Err(error) = rt.stdout().flush() {
         if status == SUCCESS {
             report(&mut faults, "standard output", &error);
@@ -44,5 +44,5 @@ fn run(rt: &HostRuntime) -> u8 {
 }
 
 fn main(rt: HostRuntime) -> ExitCode {
-    ExitCode::from(run(&rt))
+    ExitCode::from(run_streams(&rt))
 }

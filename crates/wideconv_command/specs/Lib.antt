@@ -1,3 +1,4 @@
 pub mod Inputs
 pub mod Outputs
+pub mod Requests
 pub mod Texts

@@ -1,7 +1,8 @@
 -- How converting a text ends.
-use Rattle.std.specs.Prelude.{◌≡◌, ℕ, ◌+◌, ◌^◌, ◌-◌, min, Bool, List, Option, Result, Ok, Err}
+use Rattle.std.specs.Prelude.{◌≡◌, ℕ, ◌+◌, ◌^◌, ◌-◌, min, Bool, false, List, Option, Result, Ok, Err, is_ok}
 use Rattle.wide_forms.specs.declared.policy.Policy.{Policy}
 use Rattle.wide_schemes.specs.declared.scheme.Scheme.{Scheme}
+use Rattle.wide_transcode.specs.Run.{Moves}
 use Rattle.wide_convert.specs.Converted.{EndsConverted}
 use Rattle.wide_convert.specs.declared.error.ConvertError.{ConvertError}
 use Rattle.wide_convert.specs.declared.error.ConvertError.TheVariants.{Fault, PartOfUnit, TooLong, Read, Write}
@@ -9,6 +10,7 @@ use Rattle.wide_convert.specs.declared.converter.TextFault.{TextFault}
 use Rattle.wideconv_command.specs.declared.text.TextError.{TextError}
 use Rattle.wideconv_command.specs.declared.text.TextError.TheVariants.{NoBom, Stopped}
 use Rattle.wideconv_command.specs.declared.text.Conversion.{Conversion}
+use Rattle.wideconv_command.specs.declared.request.Request.{Request}
 
 -- A fault behind so many bytes that were passed before the text.
 abbrev pub fault_behind : ℕ → TextFault → TextFault
@@ -28,3 +30,22 @@ abbrev pub EndsText : Scheme → Conversion → ℕ → Result ℕ TextError →
 EndsText from by passed (Ok faults) ended bytes written = EndsConverted from by.to by.policy by.bom (Ok faults) ended bytes written
 EndsText from by passed (Err (NoBom form)) ended bytes written = ⊥
 EndsText from by passed (Err (Stopped error)) ended bytes written = (stop : ConvertError) × (error ≡ error_behind passed stop) × EndsConverted from by.to by.policy by.bom (Err stop) ended bytes written
+
+-- A text that a scheme has was converted: the bytes that its devices had left or held before and after, whether the
+-- source has ended, and whether all went well.
+pub record Converts (from : Scheme) (by : Conversion) (left left' held held' : Option (List ℕ)) (ended is_well : Bool) : Type 0 where
+  pub answer : Result ℕ TextError
+  pub bytes : List ℕ
+  pub written : List ℕ
+  pub moves : Moves left left' held held' bytes written
+  pub ends : EndsText from by 0 answer ended bytes written
+  pub gives : is_well ≡ is_ok answer
+
+-- How a request to write a form converts texts.
+abbrev pub conversion_of : Request → Scheme → Conversion
+conversion_of request to = record { from = request.from; to = to; policy = request.policy; bom = request.bom }
+
+-- Whether all went well: it ended without an error and says so.
+abbrev pub went_well : Result Bool TextError → Bool
+went_well (Ok is_well) = is_well
+went_well (Err error) = false

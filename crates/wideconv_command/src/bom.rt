@@ -34,10 +34,10 @@ pub fn looks_like(bytes: &[u8]) -> &'static str {
     if first > few && second > few {
         return "UTF-32BE";
     }
-    if second + fourth > few {
+    if second.saturating_add(fourth) > few {
         return "UTF-16LE";
     }
-    if first + third > few {
+    if first.saturating_add(third) > few {
         return "UTF-16BE";
     }
     match str::from_utf8(bytes) {

@@ -5,7 +5,7 @@ ghost use Rattle.std.specs.Io.KnownBytes.{Keeps};
 ghost use Rattle.wideconv_command.specs.Inputs.{has_taken_end, head_of, left_of, source_of};
 
 use std::io;
-use wide_bytes::ByteSource;
+use wide_bytes::{ByteSource, take_after};
 
 // How many bytes of the beginning can be looked at.
 const HEAD_LEN: usize = 1024;
@@ -47,17 +47,17 @@ impl<S: ByteSource> Input<S> {
         }
     }
 
-    // Returns the bytes that were looked at and not taken.
-    fn rest(&self) -> &[u8]
+    /// Returns the bytes that were looked at and not taken.
+    #[tactic(auto, using(std::proofs::lemmas::List::take_min, std::proofs::lemmas::List::drop_min))]
+    pub fn head(&self) -> &[u8]
         ensures { result.now ≡ head_of self.now }
     {
-        let end = self.end.min(HEAD_LEN);
-        let from = self.from.min(end);
-        &self.head[from..end]
+        let looked = &self.head[..self.end.min(self.head.len())];
+        &looked[self.from.min(looked.len())..]
     }
 
-    /// Reads until the bytes are there that decide which scheme a BOM belongs to, or none are left, and returns those
-    /// that were read. They are still to be taken.
+    /// Reads until the bytes are there that decide which scheme a BOM belongs to, or none are left, unless some of them
+    /// were taken. They are still to be taken.
     ///
     /// # Requires
     ///
@@ -66,20 +66,19 @@ impl<S: ByteSource> Input<S> {
     /// # Errors
     ///
     /// If the source fails.
-    pub fn look(&mut self) -> io::Result<&[u8]>
+    pub fn look(&mut self) -> io::Result<()>
         requires source_unfailed { S.has_failed (source_of self.old) ≡ false }
         ensures left { Keeps (left_of (head_of self.old) (S.has_ended (source_of self.old)) (S.left (source_of self.old))) (left_of (head_of self.new) (S.has_ended (source_of self.new)) (S.left (source_of self.new))) }
-        ensures head { IfOk result (λ head. head.now ≡ head_of self.new) }
-        ensures failed { IfOk result (λ head. S.has_failed (source_of self.new) ≡ false) }
+        ensures failed { IfOk result (λ looked. S.has_failed (source_of self.new) ≡ false) }
         ensures error { IfErr result (λ error. S.has_failed (source_of self.new) ≡ true) }
         ensures ended { has_taken_end self.new ≡ has_taken_end self.old }
     {
         for _ in 0..BOM_LEN {
-            let end = self.end.min(HEAD_LEN);
-            if end >= BOM_LEN || self.source.ended() {
+            let end = self.end.min(self.head.len());
+            if self.from > 0 || end >= BOM_LEN || self.source.ended() {
                 break;
             }
-            match self.source.take(&mut self.head[end..]) {
+            match take_after(&mut self.source, &mut self.head, end) {
                 Ok(len) => self.end = end + len,
                 Err(error) => {
                     self.code = error.raw_os_error().unwrap_or(0);
@@ -87,7 +86,7 @@ impl<S: ByteSource> Input<S> {
                 }
             }
         }
-        Ok(self.rest())
+        Ok(())
     }
 
     /// Passes this many of the bytes that were looked at, or all of them if there are fewer.
@@ -115,7 +114,7 @@ impl<S: ByteSource> ByteSource for Input<S> {
     ghost has_ended = { λ input. has_taken_end input };
 
     fn take(&mut self, buf: &mut [u8]) -> io::Result<usize> {
-        let rest = self.rest();
+        let rest = self.head();
         if !rest.is_empty() {
             let len = buf.len().min(rest.len());
             buf[..len].copy_from_slice(&rest[..len]);

@@ -2,7 +2,7 @@
 #![tactic(auto)]
 
 mod bom;
-mod examine;
+mod examining;
 mod files;
 mod forms;
 mod input;
@@ -14,12 +14,12 @@ mod tally;
 mod text;
 
 pub use bom::{looks_like, scheme_by_bom};
-pub use examine::{Examined, examine};
+pub use examining::{Examined, examine};
 pub use forms::form_named;
 pub use input::Input;
 pub use messages::{FAILED, SUCCESS, USAGE, WRONG_USAGE, report};
 pub use output::Output;
-pub use program::command;
+pub use program::{command, run};
 pub use request::{Asked, Refusal, Request, parse};
 pub use tally::Tally;
 pub use text::{Conversion, TextError, convert_text, open_text};

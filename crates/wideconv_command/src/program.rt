@@ -1,10 +1,16 @@
 //! The program `wideconv`, over any devices.
 
-ghost use Rattle.std.specs.Prelude.{◌≡◌, false};
-ghost use Rattle.wideconv_command.specs.Inputs.{has_taken_end, source_of};
+ghost use Rattle.std.specs.Prelude.{◌≡◌, ◌==◌, ◌≤◌, ◌⊎◌, [], Some, true, false};
+ghost use Rattle.std.specs.Io.KnownBytes.{Appends};
+ghost use Rattle.wide_schemes.specs.declared.scheme.Scheme.{Scheme};
+ghost use Rattle.wideconv_command.specs.Inputs.{has_taken_end, head_of, left_of, source_of};
 ghost use Rattle.wideconv_command.specs.Outputs.{sink_of};
+ghost use Rattle.wideconv_command.specs.Requests.{AsksToConvert};
+ghost use Rattle.wideconv_command.specs.declared.request.Asked.TheVariants.{List, Help, Version};
+ghost use Rattle.wideconv_command.specs.declared.request.Request.{Request};
+ghost use Rattle.wideconv_command.specs.Texts.{Converts, conversion_of, went_well};
 
-use crate::examine::{Total, examine, put_line};
+use crate::examining::{Total, examine, put_line};
 use crate::files::{begin, finish};
 use crate::input::Input;
 use crate::messages::{
@@ -27,7 +33,7 @@ const OUTPUT_NAME: &str = "standard output";
 fn examine_text<S: ByteSource, K: ByteSink>(
     source: &mut Input<S>,
     sink: &mut K,
-    request: Request<'_>,
+    request: &Request<'_>,
     name: &str,
 ) -> Result<bool, TextError>
     requires source_unfailed { S.has_failed (source_of source.old) ≡ false }
@@ -48,12 +54,13 @@ fn examine_text<S: ByteSource, K: ByteSink>(
 fn run_text<S: ByteSource, K: ByteSink>(
     source: &mut Input<S>,
     sink: &mut K,
-    request: Request<'_>,
+    request: &Request<'_>,
     name: &str,
 ) -> Result<bool, TextError>
     requires source_unfailed { S.has_failed (source_of source.old) ≡ false }
     requires source_open { has_taken_end source.old ≡ false }
     requires sink_unfailed { K.has_failed sink.old ≡ false }
+    ensures converted { (from to : Scheme) → request.now.from ≡ Some from → request.now.to ≡ Some to → Converts from (conversion_of request.now to) (left_of (head_of source.old) (S.has_ended (source_of source.old)) (S.left (source_of source.old))) (left_of (head_of source.new) (S.has_ended (source_of source.new)) (S.left (source_of source.new))) (K.held sink.old) (K.held sink.new) (has_taken_end source.new) (went_well result) }
 {
     let Some(to) = request.to else {
         return examine_text(source, sink, request, name);
@@ -76,12 +83,14 @@ fn run_one<S: ByteSource, K: ByteSink, F: ByteSink>(
     source: &mut Input<S>,
     sink: &mut Output<K>,
     faults: &mut F,
-    request: Request<'_>,
+    request: &Request<'_>,
     name: &str,
 ) -> bool
     requires source_unfailed { S.has_failed (source_of source.old) ≡ false }
     requires source_open { has_taken_end source.old ≡ false }
     requires sink_unfailed { K.has_failed (sink_of sink.old) ≡ false }
+    ensures converted { (from to : Scheme) → request.now.from ≡ Some from → request.now.to ≡ Some to → Converts from (conversion_of request.now to) (left_of (head_of source.old) (S.has_ended (source_of source.old)) (S.left (source_of source.old))) (left_of (head_of source.new) (S.has_ended (source_of source.new)) (S.left (source_of source.new))) (K.held (sink_of sink.old)) (K.held (sink_of sink.new)) (has_taken_end source.new) result }
+    ensures quiet { result ≡ true → faults.new ≡ faults.old }
 {
     match run_text(source, sink, request, name) {
         Ok(is_well) => is_well,
@@ -104,7 +113,7 @@ fn run_file<R: Files, S: ByteSource, K: ByteSink, F: ByteSink>(
     input: &mut Input<S>,
     sink: &mut Output<K>,
     faults: &mut F,
-    request: Request<'_>,
+    request: &Request<'_>,
 ) -> bool
     requires input_unfailed { S.has_failed (source_of input.old) ≡ false }
     requires sink_unfailed { K.has_failed (sink_of sink.old) ≡ false }
@@ -132,22 +141,24 @@ fn run_files<R: Files, S: ByteSource, K: ByteSink, F: ByteSink>(
     input: &mut Input<S>,
     sink: &mut Output<K>,
     faults: &mut F,
-    request: Request<'_>,
+    request: &Request<'_>,
 ) -> bool
     requires input_unfailed { S.has_failed (source_of input.old) ≡ false }
     requires input_open { has_taken_end input.old ≡ false }
     requires sink_unfailed { K.has_failed (sink_of sink.old) ≡ false }
+    ensures converted { (from to : Scheme) → files.now ≡ [] → request.now.from ≡ Some from → request.now.to ≡ Some to → Converts from (conversion_of request.now to) (left_of (head_of input.old) (S.has_ended (source_of input.old)) (S.left (source_of input.old))) (left_of (head_of input.new) (S.has_ended (source_of input.new)) (S.left (source_of input.new))) (K.held (sink_of sink.old)) (K.held (sink_of sink.new)) (has_taken_end input.new) result }
+    ensures quiet { files.now ≡ [] → result ≡ true → faults.new ≡ faults.old }
 {
     if files.is_empty() {
         return run_one(input, sink, faults, request, INPUT_NAME);
     }
     let mut is_well = true;
-    let mut request = request;
+    let mut request = *request;
     for file in files {
         if sink.failed() || input.failed() || !is_well && request.to.is_some() {
             return false;
         }
-        is_well &= run_file(rt, file.as_str(), input, sink, faults, request);
+        is_well &= run_file(rt, file.as_str(), input, sink, faults, &request);
         // The text of all files has one BOM.
         request.bom = false;
     }
@@ -161,7 +172,7 @@ fn run_into<R: Files + AllocGlobal, S: ByteSource, F: ByteSink>(
     input: &mut Input<S>,
     path: &str,
     faults: &mut F,
-    request: Request<'_>,
+    request: &Request<'_>,
 ) -> bool
     requires input_unfailed { S.has_failed (source_of input.old) ≡ false }
     requires input_open { has_taken_end input.old ≡ false }
@@ -188,6 +199,8 @@ fn run_into<R: Files + AllocGlobal, S: ByteSource, F: ByteSink>(
 // Writes a text. Returns whether it was written.
 fn print<K: ByteSink, F: ByteSink>(sink: &mut Output<K>, faults: &mut F, text: &str) -> bool
     requires sink_unfailed { K.has_failed (sink_of sink.old) ≡ false }
+    ensures printed { result ≡ true → Appends (K.held (sink_of sink.old)) (K.held (sink_of sink.new)) text.now }
+    ensures quiet { result ≡ true → faults.new ≡ faults.old }
 {
     match put_all(sink, text.as_bytes()) {
         Ok(()) => true,
@@ -198,9 +211,46 @@ fn print<K: ByteSink, F: ByteSink>(sink: &mut Output<K>, faults: &mut F, text: &
     }
 }
 
-/// Runs the program with the arguments after its name, and returns the exit status: 0 after success, 1 after an error,
-/// whose message is a line on `faults`, or if faults were reported, and 2 after a usage error.
+/// Does what the arguments ask for, and returns the exit status: 0 after success, and 1 after an error, whose message is
+/// a line on `faults`, or if faults of the texts were reported.
 pub fn command<R: Files + AllocGlobal, S: ByteSource, K: ByteSink, F: ByteSink>(
+    rt: &R,
+    asked: &Asked<'_>,
+    input: &mut Input<S>,
+    sink: &mut Output<K>,
+    faults: &mut F,
+) -> u8
+    requires input_unfailed { S.has_failed (source_of input.old) ≡ false }
+    requires input_open { has_taken_end input.old ≡ false }
+    requires sink_unfailed { K.has_failed (sink_of sink.old) ≡ false }
+
+    // Standard input is converted to standard output from a form that is named: it is a run of `convert`.
+    ensures converted { (from to : Scheme) (request : Request) → AsksToConvert from to request asked.now → Converts from (conversion_of request to) (left_of (head_of input.old) (S.has_ended (source_of input.old)) (S.left (source_of input.old))) (left_of (head_of input.new) (S.has_ended (source_of input.new)) (S.left (source_of input.new))) (K.held (sink_of sink.old)) (K.held (sink_of sink.new)) (has_taken_end input.new) (result == 0) }
+
+    // A list, help or the version is printed, and nothing is read.
+    ensures list { asked.now ≡ List → result ≡ 0 → Appends (K.held (sink_of sink.old)) (K.held (sink_of sink.new)) FORMS_LIST.now }
+    ensures help { asked.now ≡ Help → result ≡ 0 → Appends (K.held (sink_of sink.old)) (K.held (sink_of sink.new)) HELP.now }
+    ensures version { asked.now ≡ Version → result ≡ 0 → Appends (K.held (sink_of sink.old)) (K.held (sink_of sink.new)) VERSION.now }
+    ensures reads { (asked.now ≡ List) ⊎ (asked.now ≡ Help) ⊎ (asked.now ≡ Version) → input.new ≡ input.old }
+
+    // The status is 0 or 1.
+    ensures statuses { result ≤ 1 }
+{
+    let is_well = match asked {
+        Asked::Texts(request, files) => match request.output {
+            Some(path) => run_into(rt, files, input, path, faults, request),
+            None => run_files(rt, files, input, sink, faults, request),
+        },
+        Asked::List => print(sink, faults, FORMS_LIST),
+        Asked::Help => print(sink, faults, HELP),
+        Asked::Version => print(sink, faults, VERSION),
+    };
+    if is_well { SUCCESS } else { FAILED }
+}
+
+/// Runs the program with the arguments after its name, and returns the exit status: that of [`command`], or 2 after a
+/// usage error.
+pub fn run<R: Files + AllocGlobal, S: ByteSource, K: ByteSink, F: ByteSink>(
     rt: &R,
     arguments: &[String],
     input: &mut Input<S>,
@@ -211,19 +261,12 @@ pub fn command<R: Files + AllocGlobal, S: ByteSource, K: ByteSink, F: ByteSink>(
     requires input_open { has_taken_end input.old ≡ false }
     requires sink_unfailed { K.has_failed (sink_of sink.old) ≡ false }
 {
-    let is_well = match parse(arguments) {
-        Ok(Asked::Texts(request, files)) => match request.output {
-            Some(path) => run_into(rt, files, input, path, faults, request),
-            None => run_files(rt, files, input, sink, faults, request),
-        },
-        Ok(Asked::List) => print(sink, faults, FORMS_LIST),
-        Ok(Asked::Help) => print(sink, faults, HELP),
-        Ok(Asked::Version) => print(sink, faults, VERSION),
+    match parse(arguments) {
+        Ok(asked) => command(rt, &asked, input, sink, faults),
         Err(refusal) => {
             report(faults, "", &refusal);
             report(faults, "", &USAGE);
-            return WRONG_USAGE;
+            WRONG_USAGE
         }
-    };
-    if is_well { SUCCESS } else { FAILED }
+    }
 }

@@ -1,5 +1,8 @@
 //! What the arguments ask for.
 
+ghost use Rattle.std.specs.Prelude.{◌≤◌, length};
+ghost use Rattle.wideconv_command.specs.Requests.{IsWithin};
+
 use crate::forms::form_named;
 use std::fmt;
 use wide_forms::Policy;
@@ -210,6 +213,42 @@ fn with_files<'a>(
     Ok(Asked::Texts(request, files))
 }
 
+// What an argument is.
+enum Step<'a> {
+    // An option of this many arguments, with which the request is this one.
+    Option(Request<'a>, usize),
+    // The last argument that matters.
+    Last(Result<Asked<'a>, Refusal<'a>>),
+}
+
+// Returns what the first of the arguments is that follow those of a request.
+fn next_step<'a>(request: Request<'a>, rest: &'a [String]) -> Step<'a>
+    ensures { IsWithin (length rest.now) result }
+{
+    let [argument, others @ ..] = rest else {
+        return Step::Last(with_files(request, rest, false));
+    };
+    let argument = argument.as_str();
+    match word_named(argument) {
+        None if argument.len() > 1 && argument.starts_with('-') => {
+            Step::Last(Err(Refusal::UnknownOption(argument)))
+        }
+        None => Step::Last(with_files(request, rest, false)),
+        Some(Word::List) => Step::Last(Ok(Asked::List)),
+        Some(Word::Help) => Step::Last(Ok(Asked::Help)),
+        Some(Word::Version) => Step::Last(Ok(Asked::Version)),
+        Some(Word::Files) => Step::Last(with_files(request, others, true)),
+        Some(word @ (Word::From | Word::To | Word::Output)) => match others {
+            [value, ..] => match with_value(request, word, value.as_str()) {
+                Ok(request) => Step::Option(request, 2),
+                Err(refusal) => Step::Last(Err(refusal)),
+            },
+            [] => Step::Last(Err(Refusal::NoValue(argument))),
+        },
+        Some(word) => Step::Option(with_word(request, word), 1),
+    }
+}
+
 /// Returns what the arguments ask for. The options come before the files, and the last one of a kind counts.
 ///
 /// # Errors
@@ -217,30 +256,15 @@ fn with_files<'a>(
 /// Why they ask for nothing.
 pub fn parse(arguments: &[String]) -> Result<Asked<'_>, Refusal<'_>> {
     let mut request = Request::new();
-    let mut rest = arguments;
-    'arguments: while let [argument, others @ ..] = rest {
-        let argument = argument.as_str();
-        let Some(word) = word_named(argument) else {
-            if argument.len() > 1 && argument.starts_with('-') {
-                return Err(Refusal::UnknownOption(argument));
+    let mut at = 0;
+    for _ in 0..arguments.len() {
+        match next_step(request, &arguments[at..]) {
+            Step::Option(next, count) => {
+                request = next;
+                at += count;
             }
-            return with_files(request, rest, false);
-        };
-        rest = others;
-        match word {
-            Word::List => return Ok(Asked::List),
-            Word::Help => return Ok(Asked::Help),
-            Word::Version => return Ok(Asked::Version),
-            Word::Files => return with_files(request, rest, true),
-            Word::From | Word::To | Word::Output => {
-                let [value, others @ ..] = rest else {
-                    return Err(Refusal::NoValue(argument));
-                };
-                request = with_value(request, word, value.as_str())?;
-                rest = others;
-            }
-            _ => request = with_word(request, word),
+            Step::Last(answer) => return answer,
         }
     }
-    with_files(request, rest, false)
+    with_files(request, &arguments[at..], false)
 }

@@ -78,9 +78,10 @@ pub fn open_text<S: ByteSource>(
     if let Some(scheme) = from {
         return Ok((scheme, 0));
     }
-    let Ok(head) = source.look() else {
+    if source.look().is_err() {
         return Err(TextError::Stopped(ConvertError::Read));
-    };
+    }
+    let head = source.head();
     let Some(found) = scheme_by_bom(head) else {
         return Err(TextError::NoBom(looks_like(head)));
     };
