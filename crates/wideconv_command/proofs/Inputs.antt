@@ -1,5 +1,5 @@
 -- What looking at a source with a beginning, and taking from it, leaves of it.
-use Rattle.std.proofs.Common.{◌≡◌, ◌==◌, ◌&&◌, nat_lt, ◌<◌, ℕ, ◌+◌, ◌-◌, ◌≤◌, Bool, true, false, Option, Some, None, List, [], ◌∷◌, ◌++◌, length, min, take, drop, refl, sym, ap, subst, ◌∙◌, arith, append_assoc, length-drop, length-take, take-add}
+use Rattle.std.proofs.Common.{◌≡◌, ◌==◌, ◌&&◌, nat_lt, ℕ, ◌+◌, ◌≤◌, Bool, true, false, Option, Some, None, List, [], ◌∷◌, ◌++◌, length, min, take, drop, refl, sym, ap, subst, ◌∙◌, arith, append_assoc, length-drop, length-take, take-add}
 use Rattle.std.proofs.lemmas.Bool.{eqb-true}
 use Rattle.std.proofs.lemmas.List.{take-append-drop, take_at, take_min}
 use Rattle.std.specs.Io.KnownBytes.{Consumes, IsAtEnd, Keeps}
@@ -14,7 +14,7 @@ first-taken head n false (Some ys) = ap (λ xs. xs ++ ys) (sym (take-append-drop
 pub head-taken : (head rest space after : List ℕ) (n : ℕ) (ended : Bool) (left : Option (List ℕ)) → after ≡ take n head → length after ≡ n → rest ≡ drop n head → Consumes (left_of head ended left) (left_of rest ended left) (take n (after ++ space))
 head-taken head rest space after n ended left is long behind =
     subst (λ xs. Consumes (left_of head ended left) (left_of xs ended left) (take n (after ++ space))) (sym behind)
-        (subst (λ xs. Consumes (left_of head ended left) (left_of (drop n head) ended left) xs) (sym is ∙ sym (take_at after space n long)) (first-taken head n ended left))
+    (subst (λ xs. Consumes (left_of head ended left) (left_of (drop n head) ended left) xs) (sym is ∙ sym (take_at after space n long)) (first-taken head n ended left))
 
 -- What is kept twice is kept.
 pub kept-twice : (a b c : Option (List ℕ)) → Keeps a b → Keeps b c → Keeps a c
@@ -53,4 +53,4 @@ pub looked : (from end len n space : ℕ) (old new : List ℕ) (ended : Bool) (l
     → Keeps (left_of (drop from (take end old)) false left) (left_of (drop from (take (len + n) new)) ended left')
 looked from end len n space old new ended left left' start bound prefix fits over given at_end =
     subst (λ xs. Keeps (left_of (drop from (take end old)) false left) (left_of xs ended left')) (sym (head-after from end len n old new start bound prefix))
-        (looked-at (drop from (take end old)) (take n (drop len new)) n space ended left left' (omega (arith, length-take n (drop len new), length-drop len new, fits)) over given at_end)
+    (looked-at (drop from (take end old)) (take n (drop len new)) n space ended left left' (omega (arith, length-take n (drop len new), length-drop len new, fits)) over given at_end)

@@ -1,6 +1,5 @@
 -- How converting a text ends.
 use Rattle.std.specs.Prelude.{◌≡◌, ℕ, ◌+◌, ◌^◌, ◌-◌, min, Bool, false, List, Option, Result, Ok, Err, is_ok}
-use Rattle.wide_forms.specs.declared.policy.Policy.{Policy}
 use Rattle.wide_schemes.specs.declared.scheme.Scheme.{Scheme}
 use Rattle.wide_transcode.specs.Run.{Moves}
 use Rattle.wide_convert.specs.Converted.{EndsConverted}

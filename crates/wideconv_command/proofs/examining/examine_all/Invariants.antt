@@ -1,4 +1,4 @@
-use Rattle.std.proofs.Common.{◌≡◌, ◌<◌, false, is_err, IfOk, ℕ, ◌+◌, ◌-◌, ◌*◌, ◌^◌, ◌≤◌, length}
+use Rattle.std.proofs.Common.{◌≡◌, false, ◌+◌, ◌-◌, ◌^◌}
 use Rattle.wideconv_command.specs.Inputs.{has_taken_end, source_of}
 use Rattle.wideconv_command.proofs.examining.examine_all.Given as goal
 

@@ -1,4 +1,4 @@
-use Rattle.std.proofs.Common.{◌≡◌, ◌<◌, false, is_err, IfOk, ℕ, ◌+◌, ◌-◌, ◌*◌, ◌^◌, ◌≤◌, length}
+use Rattle.std.proofs.Common.{◌≡◌, false, ◌+◌, ◌-◌, ◌^◌, ◌≤◌, length}
 use Rattle.wideconv_command.proofs.examining.Examiner.pass_piece.Given as goal
 
 -- The sink has not failed, and no more was read than the piece has.

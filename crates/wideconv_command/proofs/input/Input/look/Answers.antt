@@ -1,4 +1,4 @@
-use Rattle.std.proofs.Common.{◌≡◌, ◌==◌, ◌&&◌, ◌||◌, nat_lt, min, rules, false, true, drop, take, refl, sym, ap, subst, ◌∙◌, arith, ℕ, ◌+◌, ◌-◌, ◌<◌, ◌≤◌, length}
+use Rattle.std.proofs.Common.{◌≡◌, ◌==◌, ◌&&◌, ◌||◌, nat_lt, min, rules, false, drop, take, sym, ap, subst, ◌∙◌, arith, ◌+◌, ◌-◌, length}
 use Rattle.std.specs.Io.KnownBytes.{Keeps}
 use Rattle.wideconv_command.proofs.Inputs.{kept-twice, looked}
 use Rattle.wideconv_command.specs.Inputs.{left_of}

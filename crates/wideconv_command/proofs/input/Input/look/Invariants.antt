@@ -1,4 +1,4 @@
-use Rattle.std.proofs.Common.{◌≡◌, false, drop, take, ◌≤◌, length}
+use Rattle.std.proofs.Common.{◌≡◌, false}
 use Rattle.std.specs.Io.KnownBytes.{Keeps}
 use Rattle.wideconv_command.specs.Inputs.{has_taken_end, head_of, left_of, source_of}
 use Rattle.wideconv_command.proofs.input.Input.look.Given as goal
