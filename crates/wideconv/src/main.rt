@@ -3,8 +3,8 @@
 
 use std::io::{ErrorKind, Write};
 use std::process::ExitCode;
-use std::rt::Env;
-use std::{env, io};
+use std::rt::{Env, Files};
+use std::{env, fs, io};
 use wide_bytes::{FromRead, FromWrite};
 use wideconv_command::{FAILED, Input, Output, SUCCESS, USAGE, WRONG_USAGE, report, run};
 
@@ -15,6 +15,17 @@ fn arguments<R: Env + AllocGlobal>(rt: &R) -> io::Result<Vec<String>> {
         words.push(word)?;
     }
     Ok(words)
+}
+
+// Returns whether standard error is a terminal.
+fn is_terminal<R: Files + AllocGlobal>(rt: &R) -> bool {
+    match fs::read_link(rt, "/proc/self/fd/2") {
+        Ok(path) => {
+            let path = path.as_path().as_str();
+            path.starts_with("/dev/pts/") || path.starts_with("/dev/tty")
+        }
+        Err(_) => false,
+    }
 }
 
 // Runs the command on the standard streams, and returns its exit status.
@@ -32,7 +43,12 @@ fn run_streams(rt: &HostRuntime) -> u8 {
         }
     };
     let mut input = Input::new(FromRead::new(rt.stdin()));
-    let mut sink = Output::new(FromWrite::new(rt.stdout()));
+    let progress = if is_terminal(rt) {
+        Some(FromWrite::new(rt.stderr()))
+    } else {
+        None
+    };
+    let mut sink = Output::new(FromWrite::new(rt.stdout()), progress);
     let status = run(rt, &words, &mut input, &mut sink, &mut faults);
     if let Err(error) = rt.stdout().flush() {
         if status == SUCCESS {

@@ -79,9 +79,9 @@ fn run_text<S: ByteSource, K: ByteSink>(
 
 // Converts one text or looks at it, and reports why it was not read or written to its end. Returns whether all went
 // well.
-fn run_one<S: ByteSource, K: ByteSink, F: ByteSink>(
+fn run_one<S: ByteSource, K: ByteSink, F: ByteSink, P: ByteSink>(
     source: &mut Input<S>,
-    sink: &mut Output<K>,
+    sink: &mut Output<K, P>,
     faults: &mut F,
     request: &Request<'_>,
     name: &str,
@@ -107,11 +107,11 @@ fn run_one<S: ByteSource, K: ByteSink, F: ByteSink>(
 }
 
 // Opens a file, and converts it or looks at it. Returns whether all went well.
-fn run_file<R: Files, S: ByteSource, K: ByteSink, F: ByteSink>(
+fn run_file<R: Files, S: ByteSource, K: ByteSink, F: ByteSink, P: ByteSink>(
     rt: &R,
     file: &str,
     input: &mut Input<S>,
-    sink: &mut Output<K>,
+    sink: &mut Output<K, P>,
     faults: &mut F,
     request: &Request<'_>,
 ) -> bool
@@ -135,11 +135,11 @@ fn run_file<R: Files, S: ByteSource, K: ByteSink, F: ByteSink>(
 
 // Converts the files, up to the first that fails, or looks at each. Without a file it is standard input. Returns
 // whether all went well.
-fn run_files<R: Files, S: ByteSource, K: ByteSink, F: ByteSink>(
+fn run_files<R: Files, S: ByteSource, K: ByteSink, F: ByteSink, P: ByteSink>(
     rt: &R,
     files: &[String],
     input: &mut Input<S>,
-    sink: &mut Output<K>,
+    sink: &mut Output<K, P>,
     faults: &mut F,
     request: &Request<'_>,
 ) -> bool
@@ -166,13 +166,14 @@ fn run_files<R: Files, S: ByteSource, K: ByteSink, F: ByteSink>(
 }
 
 // Converts files into a file, which is replaced only if all went well. Returns whether it did.
-fn run_into<R: Files + AllocGlobal, S: ByteSource, F: ByteSink>(
+fn run_into<R: Files + AllocGlobal, S: ByteSource, F: ByteSink, P: ByteSink + Drop>(
     rt: &R,
     files: &[String],
     input: &mut Input<S>,
     path: &str,
     faults: &mut F,
     request: &Request<'_>,
+    progress: Option<P>,
 ) -> bool
     requires input_unfailed { S.has_failed (source_of input.old) ≡ false }
     requires input_open { has_taken_end input.old ≡ false }
@@ -184,8 +185,9 @@ fn run_into<R: Files + AllocGlobal, S: ByteSource, F: ByteSink>(
             return false;
         }
     };
-    let mut sink = Output::new(FromWrite::new(file));
+    let mut sink = Output::new(FromWrite::new(file), progress);
     let is_well = run_files(rt, files, input, &mut sink, faults, request);
+    sink.end_progress();
     let file = sink.into_inner().into_inner();
     match finish(rt, file, names, is_well) {
         Ok(()) => is_well,
@@ -197,7 +199,11 @@ fn run_into<R: Files + AllocGlobal, S: ByteSource, F: ByteSink>(
 }
 
 // Writes a text. Returns whether it was written.
-fn print<K: ByteSink, F: ByteSink>(sink: &mut Output<K>, faults: &mut F, text: &str) -> bool
+fn print<K: ByteSink, F: ByteSink, P: ByteSink>(
+    sink: &mut Output<K, P>,
+    faults: &mut F,
+    text: &str,
+) -> bool
     requires sink_unfailed { K.has_failed (sink_of sink.old) ≡ false }
     ensures printed { result ≡ true → Appends (K.held (sink_of sink.old)) (K.held (sink_of sink.new)) text.now }
     ensures quiet { result ≡ true → faults.new ≡ faults.old }
@@ -213,11 +219,11 @@ fn print<K: ByteSink, F: ByteSink>(sink: &mut Output<K>, faults: &mut F, text: &
 
 /// Does what the arguments ask for, and returns the exit status: 0 after success, and 1 after an error, whose message is
 /// a line on `faults`, or if faults of the texts were reported.
-pub fn command<R: Files + AllocGlobal, S: ByteSource, K: ByteSink, F: ByteSink>(
+pub fn command<R: Files + AllocGlobal, S: ByteSource, K: ByteSink, F: ByteSink, P: ByteSink + Drop>(
     rt: &R,
     asked: &Asked<'_>,
     input: &mut Input<S>,
-    sink: &mut Output<K>,
+    sink: &mut Output<K, P>,
     faults: &mut F,
 ) -> u8
     requires input_unfailed { S.has_failed (source_of input.old) ≡ false }
@@ -238,8 +244,15 @@ pub fn command<R: Files + AllocGlobal, S: ByteSource, K: ByteSink, F: ByteSink>(
 {
     let is_well = match asked {
         Asked::Texts(request, files) => match request.output {
-            Some(path) => run_into(rt, files, input, path, faults, request),
-            None => run_files(rt, files, input, sink, faults, request),
+            Some(path) => {
+                let progress = sink.take_progress();
+                run_into(rt, files, input, path, faults, request, progress)
+            }
+            None => {
+                let is_well = run_files(rt, files, input, sink, faults, request);
+                sink.end_progress();
+                is_well
+            }
         },
         Asked::List => print(sink, faults, FORMS_LIST),
         Asked::Help => print(sink, faults, HELP),
@@ -250,11 +263,11 @@ pub fn command<R: Files + AllocGlobal, S: ByteSource, K: ByteSink, F: ByteSink>(
 
 /// Runs the program with the arguments after its name, and returns the exit status: that of [`command`], or 2 after a
 /// usage error.
-pub fn run<R: Files + AllocGlobal, S: ByteSource, K: ByteSink, F: ByteSink>(
+pub fn run<R: Files + AllocGlobal, S: ByteSource, K: ByteSink, F: ByteSink, P: ByteSink + Drop>(
     rt: &R,
     arguments: &[String],
     input: &mut Input<S>,
-    sink: &mut Output<K>,
+    sink: &mut Output<K, P>,
     faults: &mut F,
 ) -> u8
     requires input_unfailed { S.has_failed (source_of input.old) ≡ false }
