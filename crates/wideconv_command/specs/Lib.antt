@@ -1,3 +1,5 @@
+pub mod Boms
+pub mod Forms
 pub mod Inputs
 pub mod Outputs
 pub mod Requests

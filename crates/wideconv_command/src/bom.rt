@@ -1,10 +1,15 @@
 //! Which scheme a text has, by its BOM, and which one it looks like.
 
+ghost use Rattle.std.specs.Prelude.{◌≡◌};
+ghost use Rattle.wideconv_command.specs.Boms.{scheme_by_bom};
+
 use wide_schemes::Scheme;
 
 /// Returns the scheme that a BOM at the beginning of a text indicates (Unicode Standard, section 23.8), and how many
 /// bytes have to be passed since the scheme keeps its BOM. `FF FE 00 00` is the BOM of UTF-32.
-pub fn scheme_by_bom(bytes: &[u8]) -> Option<(Scheme, usize)> {
+pub fn scheme_by_bom(bytes: &[u8]) -> Option<(Scheme, usize)>
+    ensures { result ≡ scheme_by_bom bytes.now }
+{
     match bytes {
         [0xef, 0xbb, 0xbf, ..] => Some((Scheme::Utf8, 3)),
         [0xff, 0xfe, 0, 0, ..] | [0, 0, 0xfe, 0xff, ..] => Some((Scheme::Utf32, 0)),

@@ -1,8 +1,9 @@
 //! Converts one text.
 
-ghost use Rattle.std.specs.Prelude.{◌≡◌, ℕ, List, Some, Ok, false, IfOk};
+ghost use Rattle.std.specs.Prelude.{◌≡◌, ℕ, List, Some, None, Ok, false, drop, IfOk};
 ghost use Rattle.wide_schemes.specs.declared.scheme.Scheme.{Scheme};
 ghost use Rattle.wide_transcode.specs.Run.{Moves};
+ghost use Rattle.wideconv_command.specs.Boms.{scheme_by_bom};
 ghost use Rattle.wideconv_command.specs.Inputs.{has_taken_end, head_of, left_of, source_of};
 ghost use Rattle.wideconv_command.specs.Texts.{EndsText, error_behind};
 
@@ -73,6 +74,7 @@ pub fn open_text<S: ByteSource>(
     requires source_open { has_taken_end source.old ≡ false }
     ensures unfailed { IfOk result (λ opened. S.has_failed (source_of source.new) ≡ false) }
     ensures open { has_taken_end source.new ≡ false }
+    ensures found { from ≡ None → IfOk result (λ opened. (head : List ℕ) × (scheme_by_bom head ≡ Some opened) × (drop opened.1 head ≡ head_of source.new)) }
     ensures known { (scheme : Scheme) → from ≡ Some scheme → (result ≡ Ok (scheme, 0)) × (source.new ≡ source.old) }
 {
     if let Some(scheme) = from {
