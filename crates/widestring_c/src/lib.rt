@@ -28,6 +28,8 @@ mod repair;
 mod search;
 #[cfg(test)]
 mod search_cases;
+mod state;
+mod streams;
 mod to_utf8;
 mod version;
 
@@ -61,6 +63,8 @@ pub use search::{
     wide_utf32_find, wide_utf32_find_ignore_ascii_case, wide_utf32_find_unit,
     wide_utf32_first_fault, wide_utf32_first_fault_item, wide_utf32_first_nul, wide_utf32_rfind,
 };
+pub use state::WideConverter;
+pub use streams::{wide_convert_push, wide_convert_start};
 pub use to_utf8::{
     wide_utf16_to_utf8, wide_utf16_to_utf8_lossy, wide_utf16_to_utf8_lossy_with,
     wide_utf32_to_utf8, wide_utf32_to_utf8_lossy, wide_utf32_to_utf8_lossy_with,
