@@ -10,6 +10,7 @@ use Rattle.wide_schemes.specs.declared.scheme.Scheme.TheVariants.{Utf8, Utf16Le,
 use Rattle.wide_convert.specs.Converting.{Converting, IsConverting, Pushes}
 use Rattle.wide_convert.specs.Statements.{IsNew}
 use Rattle.wide_convert.specs.declared.position.Position.{Position}
+use Rattle.wide_convert.specs.declared.converter.TextFault.{TextFault}
 use Rattle.wide_convert.specs.declared.converter.ProgressEnd.{ProgressEnd}
 use Rattle.wide_convert.specs.declared.converter.ProgressEnd.TheVariants.{NeedsInput, NoSpace, Fault}
 use Rattle.widestring_c.specs.Bytes.{both, is_set}
@@ -61,18 +62,15 @@ pub record Holds (state : WideConverter) (c : Converting) : Type 0 where
 abbrev pub HoldsNone : WideConverter → Type 0
 HoldsNone state = (c : Converting) → ¬ (Holds state c)
 
--- The state says why the conversion stopped, and has the numbers of a fault, which are 0 if it stopped at none.
-pub record SaysEnd (state : WideConverter) (end fault_offset fault_item fault_unit : ℕ) : Type 0 where
-  pub is : state.end ≡ end
-  pub offset : state.fault_offset ≡ fault_offset
-  pub item : state.fault_item ≡ fault_item
-  pub unit : state.fault_unit ≡ fault_unit
+-- The number for why a conversion stopped, and the fault, which is 0 throughout if it stopped at none.
+abbrev pub IsEnd : ℕ → TextFault → ProgressEnd → Type 0
+IsEnd number fault NeedsInput = (number ≡ 0) × (fault ≡ record { offset = 0; item = 0; unit = 0 })
+IsEnd number fault NoSpace = (number ≡ 1) × (fault ≡ record { offset = 0; item = 0; unit = 0 })
+IsEnd number fault (Fault at) = (number ≡ 2) × (fault ≡ at)
 
 -- The state says that the conversion stopped for this reason.
 abbrev pub Says : WideConverter → ProgressEnd → Type 0
-Says state NeedsInput = SaysEnd state 0 0 0 0
-Says state NoSpace = SaysEnd state 1 0 0 0
-Says state (Fault fault) = SaysEnd state 2 fault.offset fault.item fault.unit
+Says state end = IsEnd state.end (record { offset = state.fault_offset; item = state.fault_item; unit = state.fault_unit }) end
 
 -- The state holds a converter of a text of which nothing was read.
 pub record IsStarted (from to : Scheme) (policy : Option Policy) (bom : Bool) (state : WideConverter) : Type 0 where

@@ -4,8 +4,9 @@ ghost use Rattle.std.specs.Prelude.{◌≡◌, IfNone, IfSome, Some};
 ghost use Rattle.std.specs.Option.{option_map};
 ghost use Rattle.wide_schemes.specs.Schemes.{layout_to};
 ghost use Rattle.widestring_c.specs.Bytes.{is_set};
-ghost use Rattle.widestring_c.specs.Converters.{Holds, HoldsNone, Says, layout_named, scheme_named, strictness_named};
+ghost use Rattle.widestring_c.specs.Converters.{Holds, HoldsNone, IsEnd, Says, layout_named, scheme_named, strictness_named};
 
+use crate::bytes::is_set;
 use crate::policies::policy_of;
 use wide_bytes::BoM;
 use wide_convert::{Converter, Position, ProgressEnd, Reading, TextFault};
@@ -176,13 +177,6 @@ fn number_of_flag(flag: bool) -> u32
     u32::from(flag)
 }
 
-// Converts a number to a flag: 0 is false, any other number is true.
-pub(crate) fn is_set(flag: u32) -> bool
-    ensures { result ≡ is_set flag }
-{
-    flag != 0
-}
-
 // Returns the converter that a state holds, or `None` if it holds none.
 pub(crate) fn converter_in(state: &WideConverter) -> Option<Converter>
     ensures some { IfSome result (λ c. Holds state.now c) }
@@ -217,7 +211,9 @@ pub(crate) fn converter_in(state: &WideConverter) -> Option<Converter>
 }
 
 // Returns the number of why a converter stopped, and the fault at which it stopped, which is 0 throughout for none.
-fn end_of(end: ProgressEnd) -> (u32, TextFault) {
+fn end_of(end: ProgressEnd) -> (u32, TextFault)
+    ensures { IsEnd result.0 result.1 end }
+{
     let none = TextFault {
         offset: 0,
         item: 0,

@@ -4,7 +4,8 @@ ghost use Rattle.wide_convert.specs.Converting.{Converting, Pushes};
 ghost use Rattle.widestring_c.specs.Bytes.{is_set};
 ghost use Rattle.widestring_c.specs.Converters.{Holds, HoldsNone, IsPushed, IsStarted, conversion_named};
 
-use crate::state::{WideConverter, converter_in, is_set, scheme_named, state_of, strictness_named};
+use crate::bytes::is_set;
+use crate::state::{WideConverter, converter_in, scheme_named, state_of, strictness_named};
 use wide_convert::{ConvertProgress, Converter, ProgressEnd};
 
 // Gives a converter input, which is the last one or not.
