@@ -7,3 +7,7 @@ mod ChunkUnits
 mod Repaired
 mod Signs
 mod Windows
+mod FaultCounts
+mod Parts
+mod Converted
+mod Splits

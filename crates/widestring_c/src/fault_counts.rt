@@ -1,5 +1,5 @@
 //! Counts the ill-formed sequences of a text.
-ghost use Rattle.std.specs.Prelude.{◌≡◌, ◌≤◌, length, map};
+ghost use Rattle.std.specs.Prelude.{◌≡◌, ◌<◌, ◌≤◌, IfNone, IfSome, drop, length, map, suc};
 ghost use Rattle.wide_forms.specs.EncodingForm.{Utf16, Utf32};
 ghost use Rattle.wide_forms.specs.Items.{items};
 ghost use Rattle.wide_conversions.specs.Utf8Items.{utf8_items};
@@ -40,6 +40,21 @@ pub extern "C" fn wide_utf32_fault_count(units: &[u32]) -> usize
     count_faults(units)
 }
 
+// Returns the offset after the first ill-formed sequence of some bytes, or `None` if they are well formed.
+fn after_first_part(text: &[u8]) -> Option<usize>
+    ensures some { IfSome result (λ n. 0 < n) }
+    ensures within { IfSome result (λ n. n ≤ length text.now) }
+    ensures count { IfSome result (λ n. faults_in (utf8_items text.now) ≡ suc (faults_in (utf8_items (drop n text.now)))) }
+    ensures none { IfNone result (faults_in (utf8_items text.now) ≡ 0) }
+{
+    let chunk = first_utf8_chunk(text);
+    match chunk.end {
+        Utf8End::Complete => None,
+        Utf8End::IllFormed(len) => Some(chunk.valid + len),
+        Utf8End::Incomplete(len) => Some(chunk.valid + len),
+    }
+}
+
 /// Returns how many maximal subparts of ill-formed sequences of UTF-8 the bytes have (Unicode Standard, section 3.9,
 /// "U+FFFD Substitution of Maximal Subparts"). The lossy conversions write so many U+FFFD for them.
 #[unsafe(no_mangle)]
@@ -49,14 +64,9 @@ pub extern "C" fn wide_utf8_fault_count(text: &[u8]) -> usize
 {
     let mut count = 0;
     let mut rest = text;
-    'faults: loop {
-        let chunk = first_utf8_chunk(rest);
-        match chunk.end {
-            Utf8End::Complete => return count,
-            Utf8End::IllFormed(len) | Utf8End::Incomplete(len) => {
-                count += 1;
-                (_, rest) = rest.split_at(chunk.valid + len);
-            }
-        }
+    'faults: while let Some(len) = after_first_part(rest) {
+        count += 1;
+        (_, rest) = rest.split_at(len);
     }
+    count
 }

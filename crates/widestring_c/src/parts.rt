@@ -4,7 +4,7 @@ ghost use Rattle.wide_forms.specs.EncodingForm.{Utf16, Utf32, code_units};
 ghost use Rattle.wide_forms.specs.Items.{items};
 ghost use Rattle.wide_forms.specs.Utf8.{utf8_bytes};
 ghost use Rattle.wide_conversions.specs.Utf8Items.{utf8_items};
-ghost use Rattle.widestring_c.specs.Parts.{Converts, IsPart, StopsBefore};
+ghost use Rattle.widestring_c.specs.Parts.{BeginWithNoChar, BeginsWithChar, Converts, IsPart};
 
 use crate::between::put_recoded;
 use crate::caller_buffer::put_items;
@@ -29,20 +29,20 @@ fn put_utf8_characters<C: Unit>(units: &[C], text: &mut [u8]) -> Progress
     ensures within { result.written ≤ length text.new }
     ensures beyond { drop result.written text.new ≡ drop result.written text.old }
 {
-    let mut rest = units;
+    let mut read = 0;
     let mut written = 0;
-    'characters: while let Some((Ok(c), tail)) = split_first(rest) {
+    'characters: while let Some((item, _)) = split_first(units.split_at(read).1) {
+        let Ok(c) = item else {
+            break 'characters;
+        };
         if c.len_utf8() > text.len() - written {
             break 'characters;
         }
         let mut bytes = [0; 4];
         written = put_items(text, written, c.encode_utf8(&mut bytes).as_bytes());
-        rest = tail;
+        read += C::char_len(c);
     }
-    Progress {
-        read: units.len() - rest.len(),
-        written,
-    }
+    Progress { read, written }
 }
 
 // Converts runs of characters to UTF-8 at the start of the buffer while there is much space.
@@ -52,23 +52,20 @@ fn put_utf8_runs<C: Unit>(units: &[C], text: &mut [u8], chunk: &mut [u8]) -> Pro
     ensures within { result.written ≤ length text.new }
     ensures beyond { drop result.written text.new ≡ drop result.written text.old }
 {
-    let mut rest = units;
+    let mut read = 0;
     let mut written = 0;
     'runs: while text.len() - written >= RUN {
+        let (_, rest) = units.split_at(read);
         // A unit has at most four bytes.
         let (window, _) = rest.split_at(rest.len().min((text.len() - written) / 4));
         let valid = valid_len(window);
         if valid == 0 {
             break 'runs;
         }
-        let (run, tail) = rest.split_at(valid);
-        written = put_chunks(run, text, written, chunk);
-        rest = tail;
+        written = put_chunks(window.split_at(valid).0, text, written, chunk);
+        read += valid;
     }
-    Progress {
-        read: units.len() - rest.len(),
-        written,
-    }
+    Progress { read, written }
 }
 
 // Converts as many characters to UTF-8 as fit, and stores how many units they have.
@@ -79,7 +76,7 @@ fn put_utf8_part<C: Unit>(units: &[C], text: &mut [u8], read: &mut usize) -> usi
 {
     let runs = put_utf8_runs(units, text, &mut [0; LARGE]);
     let (_, tail) = units.split_at(runs.read);
-    let last = put_utf8_characters(tail, &mut text[runs.written..]);
+    let last = put_utf8_characters(tail, text.split_at_mut(runs.written).1);
     *read = runs.read + last.read;
     runs.written + last.written
 }
@@ -109,27 +106,27 @@ pub extern "C" fn wide_utf32_to_utf8_part(units: &[u32], text: &mut [u8], read: 
 }
 
 // Converts characters to units of another width, one after another, at the start of the buffer, as many as fit.
-fn put_unit_characters<C: Unit, D: Unit>(units: &[C], out: &mut [D]) -> Progress
-    requires { length out.old < 2 ^ 64 - 1 }
+fn put_unit_characters<C: Unit, D: Unit>(units: &[C], out: &mut [D], chunk: &mut [D]) -> Progress
+    requires space { length out.old < 2 ^ 64 - 1 }
+    requires chunk { 2 ≤ length chunk.old }
     ensures part { IsPart (items C.form) (code_units C.form) (code_units D.form) (map C.number units.now) result.read (map D.number (take result.written out.new)) (length out.new - result.written) }
     ensures within { result.written ≤ length out.new }
     ensures beyond { drop result.written out.new ≡ drop result.written out.old }
 {
-    let mut rest = units;
+    let mut read = 0;
     let mut written = 0;
-    'characters: while let Some((Ok(c), tail)) = split_first(rest) {
-        let mut two = [D::NUL; 2];
-        let len = put_char(&mut two, 0, c);
+    'characters: while let Some((item, _)) = split_first(units.split_at(read).1) {
+        let Ok(c) = item else {
+            break 'characters;
+        };
+        let len = put_char(chunk, 0, c);
         if len > out.len() - written {
             break 'characters;
         }
-        written = put_items(out, written, &two[..len]);
-        rest = tail;
+        written = put_items(out, written, &chunk[..len]);
+        read += C::char_len(c);
     }
-    Progress {
-        read: units.len() - rest.len(),
-        written,
-    }
+    Progress { read, written }
 }
 
 // Converts runs of characters to units of another width at the start of the buffer while there is much space.
@@ -140,23 +137,20 @@ fn put_unit_runs<C: Unit, D: Unit>(units: &[C], out: &mut [D], chunk: &mut [D]) 
     ensures within { result.written ≤ length out.new }
     ensures beyond { drop result.written out.new ≡ drop result.written out.old }
 {
-    let mut rest = units;
+    let mut read = 0;
     let mut written = 0;
     'runs: while out.len() - written >= RUN {
+        let (_, rest) = units.split_at(read);
         // A unit becomes at most two units of the other width.
         let (window, _) = rest.split_at(rest.len().min((out.len() - written) / 2));
         let valid = valid_len(window);
         if valid == 0 {
             break 'runs;
         }
-        let (run, tail) = rest.split_at(valid);
-        written = put_recoded(run, out, written, chunk);
-        rest = tail;
+        written = put_recoded(window.split_at(valid).0, out, written, chunk);
+        read += valid;
     }
-    Progress {
-        read: units.len() - rest.len(),
-        written,
-    }
+    Progress { read, written }
 }
 
 // Converts as many characters to units of another width as fit, and stores how many units were read.
@@ -174,7 +168,7 @@ fn put_unit_part<C: Unit, D: Unit>(
 {
     let runs = put_unit_runs(units, out, chunk);
     let (_, tail) = units.split_at(runs.read);
-    let last = put_unit_characters(tail, &mut out[runs.written..]);
+    let last = put_unit_characters(tail, out.split_at_mut(runs.written).1, chunk);
     *read = runs.read + last.read;
     runs.written + last.written
 }
@@ -214,7 +208,7 @@ pub extern "C" fn wide_utf32_to_utf16_part(
 // Returns the character at the beginning of some bytes, or `None` if they are empty or begin with a fault.
 fn first_char(text: &[u8]) -> Option<char>
     ensures some { IfSome result (λ c. BeginsWithChar text.now c) }
-    ensures none { IfNone result (StopsBefore utf8_bytes 4 (utf8_items text.now)) }
+    ensures none { IfNone result (BeginWithNoChar (utf8_items text.now)) }
 {
     let (window, _) = text.split_at(text.len().min(4));
     let (valid, _) = window.split_at(first_utf8_chunk(window).valid);
@@ -223,21 +217,21 @@ fn first_char(text: &[u8]) -> Option<char>
 }
 
 // Converts characters of UTF-8 to units, one after another, at the start of the buffer, as many as fit.
-fn put_decoded_characters<D: Unit>(text: &[u8], units: &mut [D]) -> Progress
-    requires { length units.old < 2 ^ 64 - 1 }
+fn put_decoded_characters<D: Unit>(text: &[u8], units: &mut [D], chunk: &mut [D]) -> Progress
+    requires space { length units.old < 2 ^ 64 - 1 }
+    requires chunk { 2 ≤ length chunk.old }
     ensures part { IsPart utf8_items utf8_bytes (code_units D.form) text.now result.read (map D.number (take result.written units.new)) (length units.new - result.written) }
     ensures within { result.written ≤ length units.new }
     ensures beyond { drop result.written units.new ≡ drop result.written units.old }
 {
     let mut read = 0;
     let mut written = 0;
-    'characters: while let Some(c) = first_char(&text[read..]) {
-        let mut two = [D::NUL; 2];
-        let len = put_char(&mut two, 0, c);
+    'characters: while let Some(c) = first_char(text.split_at(read).1) {
+        let len = put_char(chunk, 0, c);
         if len > units.len() - written {
             break 'characters;
         }
-        written = put_items(units, written, &two[..len]);
+        written = put_items(units, written, &chunk[..len]);
         read += c.len_utf8();
     }
     Progress { read, written }
@@ -261,7 +255,7 @@ fn put_decoded_runs<D: Unit>(text: &[u8], units: &mut [D], chunk: &mut [D]) -> P
         if valid == 0 {
             break 'runs;
         }
-        written = put_text(&window[..valid], units, written, chunk);
+        written = put_text(window.split_at(valid).0, units, written, chunk);
         read += valid;
     }
     Progress { read, written }
@@ -282,7 +276,7 @@ fn put_decoded_part<D: Unit>(
 {
     let runs = put_decoded_runs(text, units, chunk);
     let (_, tail) = text.split_at(runs.read);
-    let last = put_decoded_characters(tail, &mut units[runs.written..]);
+    let last = put_decoded_characters(tail, units.split_at_mut(runs.written).1, chunk);
     *read = runs.read + last.read;
     runs.written + last.written
 }

@@ -46,7 +46,7 @@ fn repair_in_place<C: Unit>(units: &mut [C]) -> usize
     let (replacement, _) = C::encode_char(char::REPLACEMENT_CHARACTER);
     let mut count = 0;
     let mut at = 0;
-    'faults: while let Some((index, _unit)) = find_fault(&units[at..]) {
+    'faults: while let Some((index, _unit)) = find_fault(units.split_at(at).1) {
         units[at + index] = replacement;
         at += index + 1;
         count += 1;

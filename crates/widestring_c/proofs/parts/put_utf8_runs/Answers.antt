@@ -1,0 +1,4 @@
+use Rattle.widestring_c.proofs.parts.put_utf8_runs.Goals as goal
+
+pub runs-preserved : goal.runs-preserved
+runs-preserved g c = ?
