@@ -8,6 +8,7 @@ mod Repaired
 mod Signs
 mod Windows
 mod FaultCounts
-mod Parts
 mod Converted
 mod Splits
+mod FirstChars
+mod Held

@@ -1,14 +1,14 @@
 -- Units as bytes in either order, and units with their bytes swapped.
-use Rattle.std.specs.Prelude.{◌≡◌, ◌+◌, ◌*◌, ◌/◌, ◌%◌, ◌-◌, ◌^◌, ◌<◌, ◌≤◌, ℕ, List, Some, length, take, drop}
+use Rattle.std.specs.Prelude.{◌≡◌, ◌+◌, ◌*◌, ◌/◌, ◌%◌, ◌-◌, ◌^◌, ◌<◌, ◌≤◌, ◌==◌, if◌then◌else◌, ℕ, List, Option, None, length, take, drop}
 use Rattle.wide_forms.specs.EncodingForm.{EncodingForm}
 use Rattle.wide_forms.specs.UnitBytes.{big_bytes_of, little_bytes_of, unit_width}
 use Rattle.wide_bytes.specs.declared.order.BoM.{BoM}
 use Rattle.wide_bytes.specs.declared.order.BoM.TheVariants.{Little, Big}
 use Rattle.widestring_c.specs.Bytes.{order_named}
 
--- The bytes are whole units of this width, in an order whose number is valid.
-abbrev pub IsWholeBy : ℕ → ℕ → List ℕ → Type 0
-IsWholeBy width order bytes = (length bytes % width ≡ 0) × ((o : BoM) × (order_named order ≡ Some o))
+-- The order with a number, if the bytes are whole units of this width.
+abbrev pub whole_order : ℕ → ℕ → List ℕ → Option BoM
+whole_order width order bytes = if length bytes % width == 0 then order_named order else None
 
 -- The bytes of units of either width in an order.
 abbrev pub bytes_by : EncodingForm → BoM → List ℕ → List ℕ

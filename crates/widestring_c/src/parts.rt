@@ -10,11 +10,10 @@ use crate::between::put_recoded;
 use crate::caller_buffer::put_items;
 use crate::from_utf8::put_text;
 use crate::to_utf8::put_chunks;
-use std::str;
 use wide_conversions::first_utf8_chunk;
 use wide_forms::Progress;
 use wide_from_units::array_sizes::LARGE;
-use wide_unit::{Unit, put_char, split_first, valid_len};
+use wide_unit::{Unit, char_of, next_code_point, put_char, split_first, valid_len};
 
 // The size, in units, of the array through which units are converted.
 const CHUNK_UNITS: usize = 48 * 16;
@@ -211,9 +210,14 @@ fn first_char(text: &[u8]) -> Option<char>
     ensures none { IfNone result (BeginWithNoChar (utf8_items text.now)) }
 {
     let (window, _) = text.split_at(text.len().min(4));
-    let (valid, _) = window.split_at(first_utf8_chunk(window).valid);
-    // The chunk is well-formed UTF-8.
-    unsafe { str::from_utf8_unchecked(valid) }.chars().next()
+    let valid = first_utf8_chunk(window).valid;
+    if valid == 0 {
+        return None;
+    }
+    match next_code_point(window.split_at(valid).0) {
+        Some((code, _)) => Some(char_of(code)),
+        None => None,
+    }
 }
 
 // Converts characters of UTF-8 to units, one after another, at the start of the buffer, as many as fit.

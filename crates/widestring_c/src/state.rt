@@ -191,6 +191,7 @@ pub(crate) fn converter_in(state: &WideConverter) -> Option<Converter>
     let Some(layout) = layout_named(state.layout) else {
         return None;
     };
+    let unread = state.unread;
     let reading = Reading {
         scheme,
         keeps: is_set(state.keeps),
@@ -198,7 +199,7 @@ pub(crate) fn converter_in(state: &WideConverter) -> Option<Converter>
         layout,
         after_high: is_set(state.after_high),
         after_fault: is_set(state.after_fault),
-        unread: state.unread,
+        unread,
         unread_len: state.kept,
         bom: state.bom_length,
         position: Position {
@@ -234,6 +235,7 @@ pub(crate) fn state_of(converter: Converter, read: usize, end: ProgressEnd) -> W
 {
     let (reading, to, bom) = converter.parts();
     let (end, fault) = end_of(end);
+    let unread = reading.unread;
     WideConverter {
         read,
         kept: reading.unread_len,
@@ -253,6 +255,6 @@ pub(crate) fn state_of(converter: Converter, read: usize, end: ProgressEnd) -> W
         after_fault: number_of_flag(reading.after_fault),
         bom: number_of_flag(bom),
         bom_length: reading.bom,
-        unread: reading.unread,
+        unread,
     }
 }

@@ -1,9 +1,9 @@
 //! Copies units to bytes in either byte order and back, and swaps the bytes of units, into a buffer of the caller.
-ghost use Rattle.std.specs.Prelude.{◌≡◌, ◌*◌, ◌/◌, ◌<◌, ◌≤◌, ◌-◌, ◌^◌, IfNone, IfSome, length, map, take, drop};
+ghost use Rattle.std.specs.Prelude.{◌≡◌, ◌*◌, ◌/◌, ◌%◌, ◌<◌, ◌≤◌, ◌-◌, ◌^◌, IfNone, IfSome, length, map, take, drop};
 ghost use Rattle.wide_bytes.specs.Bytes.{bytes_in, units_in};
 ghost use Rattle.wide_schemes.specs.Layouts.{bytes32_in, units32_in};
 ghost use Rattle.widestring_c.specs.Bytes.{order_named};
-ghost use Rattle.widestring_c.specs.UnitBytes.{IsWholeBy, WroteBytes, swapped_16, swapped_32};
+ghost use Rattle.widestring_c.specs.UnitBytes.{WroteBytes, swapped_16, swapped_32, whole_order};
 
 use crate::bytes::order_named;
 use wide_bytes::{BoM, fill_units};
@@ -14,8 +14,7 @@ use wide_unit::Unit;
 // Returns the order with this number if the bytes are whole units of `width` bytes.
 fn whole_order(bytes: &[u8], width: usize, order: u32) -> Option<BoM>
     requires { 0 < width }
-    ensures some { IfSome result (λ o. (order_named order ≡ Some o) × (length bytes.now % width ≡ 0)) }
-    ensures none { IfNone result (IsWholeBy width order bytes.now → ⊥) }
+    ensures { result ≡ whole_order width order bytes.now }
 {
     if bytes.len() % width != 0 {
         return None;
@@ -29,21 +28,22 @@ fn whole_order(bytes: &[u8], width: usize, order: u32) -> Option<BoM>
 /// `usize::MAX` and leaves `units` unchanged.
 #[unsafe(no_mangle)]
 pub extern "C" fn wide_utf16_from_bytes(bytes: &[u8], order: u32, units: &mut [u16]) -> usize
-    ensures len { IsWholeBy 2 order bytes.now → result ≡ length bytes.now / 2 }
-    ensures units { IsWholeBy 2 order bytes.now → IfSome (order_named order) (λ o. result ≤ length units.old → take result units.new ≡ units_in o bytes.now) }
-    ensures fault { (IsWholeBy 2 order bytes.now → ⊥) → result ≡ 2 ^ 64 - 1 }
-    ensures no_fault { IsWholeBy 2 order bytes.now → result < 2 ^ 64 - 1 }
-    ensures unchanged { (IsWholeBy 2 order bytes.now → ⊥) → units.new ≡ units.old }
+    ensures len { IfSome (whole_order 2 order bytes.now) (λ o. result ≡ length bytes.now / 2) }
+    ensures units { IfSome (whole_order 2 order bytes.now) (λ o. result ≤ length units.old → take result units.new ≡ units_in o bytes.now) }
+    ensures no_fault { IfSome (whole_order 2 order bytes.now) (λ o. result < 2 ^ 64 - 1) }
+    ensures fault { IfNone (whole_order 2 order bytes.now) (result ≡ 2 ^ 64 - 1) }
+    ensures unchanged { IfNone (whole_order 2 order bytes.now) (units.new ≡ units.old) }
     ensures beyond { drop result units.new ≡ drop result units.old }
 {
     let Some(order) = whole_order(bytes, 2, order) else {
         return usize::MAX;
     };
     let len = bytes.len() / 2;
-    if len <= units.len() {
-        let (space, _) = units.split_at_mut(len);
-        fill_units(order, bytes, space);
+    if len > units.len() {
+        return len;
     }
+    let (space, _) = units.split_at_mut(len);
+    fill_units(order, bytes, space);
     len
 }
 
@@ -53,21 +53,22 @@ pub extern "C" fn wide_utf16_from_bytes(bytes: &[u8], order: u32, units: &mut [u
 /// 1, it returns `usize::MAX` and leaves `units` unchanged.
 #[unsafe(no_mangle)]
 pub extern "C" fn wide_utf32_from_bytes(bytes: &[u8], order: u32, units: &mut [u32]) -> usize
-    ensures len { IsWholeBy 4 order bytes.now → result ≡ length bytes.now / 4 }
-    ensures units { IsWholeBy 4 order bytes.now → IfSome (order_named order) (λ o. result ≤ length units.old → take result units.new ≡ units32_in o bytes.now) }
-    ensures fault { (IsWholeBy 4 order bytes.now → ⊥) → result ≡ 2 ^ 64 - 1 }
-    ensures no_fault { IsWholeBy 4 order bytes.now → result < 2 ^ 64 - 1 }
-    ensures unchanged { (IsWholeBy 4 order bytes.now → ⊥) → units.new ≡ units.old }
+    ensures len { IfSome (whole_order 4 order bytes.now) (λ o. result ≡ length bytes.now / 4) }
+    ensures units { IfSome (whole_order 4 order bytes.now) (λ o. result ≤ length units.old → take result units.new ≡ units32_in o bytes.now) }
+    ensures no_fault { IfSome (whole_order 4 order bytes.now) (λ o. result < 2 ^ 64 - 1) }
+    ensures fault { IfNone (whole_order 4 order bytes.now) (result ≡ 2 ^ 64 - 1) }
+    ensures unchanged { IfNone (whole_order 4 order bytes.now) (units.new ≡ units.old) }
     ensures beyond { drop result units.new ≡ drop result units.old }
 {
     let Some(order) = whole_order(bytes, 4, order) else {
         return usize::MAX;
     };
     let len = bytes.len() / 4;
-    if len <= units.len() {
-        let (space, _) = units.split_at_mut(len);
-        fill_units_32(order, bytes, space);
+    if len > units.len() {
+        return len;
     }
+    let (space, _) = units.split_at_mut(len);
+    fill_units_32(order, bytes, space);
     len
 }
 
@@ -123,6 +124,29 @@ pub extern "C" fn wide_utf32_to_bytes(units: &[u32], order: u32, bytes: &mut [u8
     }
 }
 
+// Swaps the two bytes of each unit.
+fn swap_16(units: &mut [u16])
+    ensures { units.new ≡ map swapped_16 units.old }
+{
+    for k in 0..units.len() {
+        let unit = units[k];
+        units[k] = unit % 0x100 * 0x100 + unit / 0x100;
+    }
+}
+
+// Reverses the four bytes of each unit.
+fn swap_32(units: &mut [u32])
+    ensures { units.new ≡ map swapped_32 units.old }
+{
+    for k in 0..units.len() {
+        let unit = units[k];
+        units[k] = unit % 0x100 * 0x100_0000
+            + unit / 0x100 % 0x100 * 0x1_0000
+            + unit / 0x1_0000 % 0x100 * 0x100
+            + unit / 0x100_0000;
+    }
+}
+
 /// Copies units of UTF-16, and swaps the two bytes of each. Returns the length, which is that of the input in units. If
 /// `swapped` is at least that long, the result is at its start, and the units after the result are unchanged.
 #[unsafe(no_mangle)]
@@ -131,13 +155,12 @@ pub extern "C" fn wide_utf16_swap_bytes(units: &[u16], swapped: &mut [u16]) -> u
     ensures units { result ≤ length swapped.old → take result swapped.new ≡ map swapped_16 units.now }
     ensures beyond { drop result swapped.new ≡ drop result swapped.old }
 {
-    if units.len() <= swapped.len() {
-        let (text, _) = swapped.split_at_mut(units.len());
-        text.copy_from_slice(units);
-        for unit in text.iter_mut() {
-            *unit = *unit % 0x100 * 0x100 + *unit / 0x100;
-        }
+    if units.len() > swapped.len() {
+        return units.len();
     }
+    let (text, _) = swapped.split_at_mut(units.len());
+    text.copy_from_slice(units);
+    swap_16(text);
     units.len()
 }
 
@@ -149,15 +172,11 @@ pub extern "C" fn wide_utf32_swap_bytes(units: &[u32], swapped: &mut [u32]) -> u
     ensures units { result ≤ length swapped.old → take result swapped.new ≡ map swapped_32 units.now }
     ensures beyond { drop result swapped.new ≡ drop result swapped.old }
 {
-    if units.len() <= swapped.len() {
-        let (text, _) = swapped.split_at_mut(units.len());
-        text.copy_from_slice(units);
-        for unit in text.iter_mut() {
-            *unit = *unit % 0x100 * 0x100_0000
-                + *unit / 0x100 % 0x100 * 0x1_0000
-                + *unit / 0x1_0000 % 0x100 * 0x100
-                + *unit / 0x100_0000;
-        }
+    if units.len() > swapped.len() {
+        return units.len();
     }
+    let (text, _) = swapped.split_at_mut(units.len());
+    text.copy_from_slice(units);
+    swap_32(text);
     units.len()
 }
