@@ -3,7 +3,7 @@ use Rattle.std.proofs.Common.{◌≡◌, ℕ, ◌<◌, ◌≤◌, List, [], ◌�
 use Rattle.std.specs.Char.{IsScalar}
 use Rattle.std.specs.Str.{IsUtf8, StartsWithNoChar, all_scalars, encode_utf8_all}
 use Rattle.std.specs.Str.Lossy.{utf8_invalid_len, utf8_valid_len}
-use Rattle.std.specs.Prelude.{slice_index}
+use Rattle.std.specs.Prelude.{Option, slice_index}
 use Rattle.std.proofs.Math.Seq.{take-append_seam}
 use Rattle.std.proofs.lemmas.Bool.{and_parts}
 use Rattle.std.proofs.lemmas.List.{take-append-drop, take-append-le, take-take}
@@ -79,8 +79,12 @@ window-first text window piece n valid cut is within some utf8 =
     (f, begins-with text (f.rest ++ beyond) f.code f.scalar whole)
 
 -- What a decoder reads at the beginning of the text is that character.
+abbrev number_of : Option (ℕ × List ℕ) → ℕ
+number_of None = 0
+number_of (Some p) = p.0
+
 code-read : (bs : List ℕ) (code : ℕ) (rest : List ℕ) (f : HasFirst bs) → Some (code, rest) ≡ code_point_at bs → code ≡ f.code
-code-read bs code rest f e = let g : Some (code, rest) ≡ Some (f.code, f.rest) = e ∙ f.read in cc
+code-read bs code rest f e = ap number_of (e ∙ f.read)
 
 pub window-read : (text window piece : List ℕ) (n valid code : ℕ) (rest : List ℕ) → window ≡ take n text → piece ≡ take valid window → valid ≤ length window → 0 < valid → IsUtf8 piece → Some (code, rest) ≡ code_point_at piece → IsScalar code × BeginsWithChar text code
 window-read text window piece n valid code rest cut is within some utf8 read =
