@@ -12,3 +12,4 @@ mod Converted
 mod Splits
 mod FirstChars
 mod Held
+mod Wtf8Texts

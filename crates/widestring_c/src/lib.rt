@@ -28,6 +28,8 @@ pub mod laws;
 mod length_cases;
 mod lengths;
 mod parts;
+#[cfg(test)]
+mod piece_cases;
 mod policies;
 mod repair;
 mod search;

@@ -26,11 +26,12 @@ pub extern "C" fn wide_utf16_to_wtf8(units: &[u16], text: &mut [u8]) -> usize
     ensures beyond { drop result text.new ≡ drop result text.old }
 {
     let len = wide_utf16_wtf8_length(units);
-    if len <= text.len() {
-        let (space, _) = text.split_at_mut(len);
-        // The space is as long as the text, so all of it is written.
-        let _written = write_wtf8(units, space);
+    if len > text.len() {
+        return len;
     }
+    let (space, _) = text.split_at_mut(len);
+    // The space is as long as the text, so all of it is written.
+    let _written = write_wtf8(units, space);
     len
 }
 
@@ -60,11 +61,12 @@ pub extern "C" fn wide_wtf8_to_utf16(text: &[u8], units: &mut [u16]) -> usize
     ensures beyond { drop result units.new ≡ drop result units.old }
 {
     let len = wide_wtf8_utf16_length(text);
-    if len <= units.len() {
-        let (space, _) = units.split_at_mut(len);
-        // The space has as many units as the text, so all of it is written.
-        let _written = write_from_wtf8(text, space);
+    if len > units.len() {
+        return len;
     }
+    let (space, _) = units.split_at_mut(len);
+    // The space has as many units as the text, so all of it is written.
+    let _written = write_from_wtf8(text, space);
     len
 }
 
