@@ -1,15 +1,14 @@
 -- The character at the beginning of bytes.
-use Rattle.std.proofs.Common.{◌≡◌, ℕ, ◌<◌, ◌≤◌, List, [], ◌∷◌, ◌++◌, Some, None, true, refl, sym, ap, ◌∙◌, subst, arith, append_assoc, length, length-append, length-take-le, min, take, drop}
+use Rattle.std.proofs.Common.{◌≡◌, ℕ, ◌<◌, ◌≤◌, List, [], ◌∷◌, ◌++◌, Some, None, true, sym, ap, ◌∙◌, subst, arith, append_assoc, length, length-append, length-take-le, min, take, drop}
 use Rattle.std.specs.Char.{IsScalar}
-use Rattle.std.specs.Str.{IsUtf8, StartsWithNoChar, all_scalars, encode_utf8_all}
+use Rattle.std.specs.Str.{IsUtf8, all_scalars, encode_utf8_all}
 use Rattle.std.specs.Str.Lossy.{utf8_invalid_len, utf8_valid_len}
-use Rattle.std.specs.Prelude.{Option, slice_index}
+use Rattle.std.specs.Prelude.{Option}
 use Rattle.std.proofs.Math.Seq.{take-append_seam}
 use Rattle.std.proofs.lemmas.Bool.{and_parts}
-use Rattle.std.proofs.lemmas.List.{take-append-drop, take-append-le, take-take}
+use Rattle.std.proofs.lemmas.List.{take-append-drop, take-take}
 use Rattle.std.proofs.lemmas.Str.{IsUtf8-encode, len_utf8_bounds, length-encode}
 use Rattle.wide_forms.specs.CodePoint.{code_point_at}
-use Rattle.wide_forms.specs.Segmentation.{Item, Char, Fault}
 use Rattle.wide_forms.specs.Utf8.{utf8, utf8_bytes}
 use Rattle.wide_forms.specs.Laws.Utf8.{code_point_at-text, utf8-encode_utf8_all, utf8_bytes-encode_utf8}
 use Rattle.wide_conversions.specs.Laws.Utf8Items.{First, nothing, char, no_char, first, valid_len-longest}

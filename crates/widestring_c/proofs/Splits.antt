@@ -2,11 +2,11 @@
 use Rattle.std.proofs.Common.{◌≡◌, ℕ, suc, ◌+◌, ◌-◌, ◌<◌, ◌≤◌, ◌⊎◌, inl, inr, Bool, true, false, List, [], ◌∷◌, ◌++◌, sym, ap, ◌∙◌, subst, arith, drop-cons, get_or, length, length-append, length-take-le, take, drop}
 use Rattle.std.proofs.lemmas.Bool.Decides.{nat_tests}
 use Rattle.std.proofs.lemmas.List.{get_or-take, get_or_at, take-append-drop}
-use Rattle.wide_forms.specs.EncodingForm.{EncodingForm, Utf16, IsHighSurrogate, IsLowSurrogate, IsPair}
+use Rattle.wide_forms.specs.EncodingForm.{EncodingForm, Utf16, IsHighSurrogate, IsLowSurrogate}
 use Rattle.wide_forms.specs.Segmentation.{Item, Char, item_units, units_of}
 use Rattle.wide_forms.specs.Items.{IsBoundary, items}
 use Rattle.wide_forms.specs.Searches.{is_high, is_low}
-use Rattle.wide_forms.specs.Laws.Boundaries.{IsBoundary-of_cut, units_of-append}
+use Rattle.wide_forms.specs.Laws.Boundaries.{IsBoundary-of_cut}
 use Rattle.wide_forms.specs.Laws.Ends.{items-prefix_char}
 use Rattle.wide_forms.specs.Laws.Forms.{IsPair-from, IsPair-parts, high-no_low}
 use Rattle.wide_forms.specs.Laws.Items.{IsCut, items-append, units_of-items}

@@ -1,6 +1,6 @@
 -- Conversions piece by piece, as C programs start and continue them: the numbers of encoding schemes and policies, and
 -- the converter that a state in the caller's memory holds.
-use Rattle.std.specs.Prelude.{◌≡◌, ◌-◌, ◌<◌, ◌≤◌, ◌==◌, ℕ, Bool, List, Option, Some, None, if◌then◌else◌, length, take}
+use Rattle.std.specs.Prelude.{◌≡◌, ◌-◌, ◌≤◌, ◌==◌, ℕ, Bool, List, Option, Some, None, if◌then◌else◌, length, take}
 use Rattle.std.specs.Option.{option_map}
 use Rattle.wide_forms.specs.declared.policy.Policy.{Policy}
 use Rattle.wide_schemes.specs.Schemes.{layout_to}
@@ -9,7 +9,6 @@ use Rattle.wide_schemes.specs.declared.scheme.Scheme.{Scheme}
 use Rattle.wide_schemes.specs.declared.scheme.Scheme.TheVariants.{Utf8, Utf16Le, Utf16Be, Utf16, Utf32Le, Utf32Be, Utf32, Wtf8}
 use Rattle.wide_convert.specs.Converting.{Converting, IsConverting, Pushes}
 use Rattle.wide_convert.specs.Statements.{IsNew}
-use Rattle.wide_convert.specs.declared.position.Position.{Position}
 use Rattle.wide_convert.specs.declared.converter.TextFault.{TextFault}
 use Rattle.wide_convert.specs.declared.converter.ProgressEnd.{ProgressEnd}
 use Rattle.wide_convert.specs.declared.converter.ProgressEnd.TheVariants.{NeedsInput, NoSpace, Fault}

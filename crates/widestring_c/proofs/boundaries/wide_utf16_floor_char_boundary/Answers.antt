@@ -1,5 +1,5 @@
-use Rattle.std.proofs.Common.{◌≡◌, ◌-◌, ◌<◌, ◌+◌, arith, subst, get_or}
-use Rattle.wide_forms.specs.EncodingForm.{Utf16, IsHighSurrogate, IsLowSurrogate}
+use Rattle.std.proofs.Common.{◌≡◌, ◌-◌, arith, subst, get_or}
+use Rattle.wide_forms.specs.EncodingForm.{Utf16}
 use Rattle.wide_forms.specs.Items.{IsBoundary}
 use Rattle.wide_forms.specs.Laws.Boundaries.{IsBoundary-at, IsBoundary-end}
 use Rattle.wide_forms.specs.Laws.Forms.{high-no_low}

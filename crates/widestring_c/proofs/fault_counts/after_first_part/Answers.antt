@@ -1,4 +1,4 @@
-use Rattle.std.proofs.Common.{subst, arith}
+use Rattle.std.proofs.Common.{subst}
 use Rattle.wide_conversions.specs.ChunkEnds.{EndsAs}
 use Rattle.widestring_c.proofs.FaultCounts.{first_part-count, none-text}
 use Rattle.widestring_c.proofs.fault_counts.after_first_part.Goals as goal

@@ -1,4 +1,4 @@
-use Rattle.std.proofs.Common.{◌-◌, refl, ap, subst, sym, ◌∙◌, length, map, take}
+use Rattle.std.proofs.Common.{◌-◌, subst, length, map, take}
 use Rattle.std.proofs.lemmas.List.{map-append}
 use Rattle.wide_forms.specs.EncodingForm.{code_units}
 use Rattle.wide_forms.specs.Utf8.{utf8_bytes}

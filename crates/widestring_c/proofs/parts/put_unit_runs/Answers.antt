@@ -1,4 +1,4 @@
-use Rattle.std.proofs.Common.{◌≡◌, ◌+◌, ◌++◌, ◌≤◌, arith, ap, subst, sym, ◌∙◌, length, length-take-le, map, take}
+use Rattle.std.proofs.Common.{◌≡◌, ◌+◌, ◌≤◌, arith, ap, subst, sym, ◌∙◌, length, length-take-le, map, take}
 use Rattle.std.proofs.lemmas.List.{length-map, length-take}
 use Rattle.wide_forms.specs.EncodingForm.{code_units, encode}
 use Rattle.wide_forms.specs.Items.{IsWellFormed, chars, items}

@@ -1,4 +1,4 @@
-use Rattle.std.proofs.Common.{◌≡◌, ◌+◌, ◌-◌, ◌++◌, ◌≤◌, arith, ap, subst, sym, ◌∙◌, length, length-drop, map, take, drop}
+use Rattle.std.proofs.Common.{◌≡◌, ◌+◌, ◌-◌, ◌++◌, ◌≤◌, arith, ap, subst, sym, ◌∙◌, length, map, take, drop}
 use Rattle.std.proofs.lemmas.List.{length-map}
 use Rattle.std.proofs.lemmas.Str.{length-encode}
 use Rattle.wide_forms.specs.EncodingForm.{code_units}

@@ -1,7 +1,6 @@
-use Rattle.std.proofs.Common.{◌≡◌, ◌+◌, ◌<◌, refl, arith, ap, subst, sym, ◌∙◌, length, length-drop, map, drop, set, take}
+use Rattle.std.proofs.Common.{◌+◌, ◌<◌, refl, arith, subst, ◌∙◌, length, map, drop}
 use Rattle.std.proofs.lemmas.List.{length-set}
-use Rattle.wide_forms.specs.EncodingForm.{encode}
-use Rattle.wide_forms.specs.Items.{IsFirstFault, IsWellFormed, items}
+use Rattle.wide_forms.specs.Items.{IsFirstFault, IsWellFormed}
 use Rattle.wide_forms.specs.Offsets.{text_before}
 use Rattle.widestring_c.proofs.FaultCounts.{none-well_formed, repaired-all, repaired-count, repaired-more, replacement-number}
 use Rattle.widestring_c.proofs.repair.repair_in_place.Goals as goal

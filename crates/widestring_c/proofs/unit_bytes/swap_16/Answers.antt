@@ -1,5 +1,5 @@
-use Rattle.std.proofs.Common.{◌<◌, arith, get_or, length, subst}
-use Rattle.std.proofs.lemmas.List.{get_or_default, length-map}
+use Rattle.std.proofs.Common.{◌<◌, arith, get_or, length}
+use Rattle.std.proofs.lemmas.List.{get_or_default}
 use Rattle.std.proofs.lemmas.List.Edits.{map_over_more}
 use Rattle.widestring_c.specs.UnitBytes.{swapped_16}
 use Rattle.widestring_c.proofs.unit_bytes.swap_16.Goals as goal
