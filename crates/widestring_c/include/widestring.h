@@ -1,5 +1,6 @@
 /*
- * Conversions, checks, searches and comparisons of UTF-16, UTF-32 and UTF-8 for C programs. The caller supplies all buffers.
+ * Conversions, checks, searches and comparisons of UTF-16, UTF-32 and UTF-8 for C programs. The caller supplies all
+ * buffers.
  *
  * For all input, well formed or not, each function is proved to do what its comment says, except how long it takes, if
  * the caller keeps these rules. The functions do not check the rules:
@@ -124,8 +125,8 @@ size_t wide_utf32_first_fault(const uint32_t *units, size_t length);
 size_t wide_utf8_first_fault(const uint8_t *text, size_t length);
 
 /*
- * Returns the offset of the first byte of the first fault of WTF-8, or `length` if there is none: an ill-formed sequence
- * of UTF-8 that is no surrogate, or the second half of a surrogate pair whose halves are written apart.
+ * Returns the offset of the first byte of the first fault of WTF-8, or `length` if there is none: an ill-formed
+ * sequence of UTF-8 that is no surrogate, or the second half of a surrogate pair whose halves are written apart.
  */
 size_t wide_wtf8_first_fault(const uint8_t *text, size_t length);
 
@@ -138,9 +139,9 @@ size_t wide_utf16_first_fault_item(const uint16_t *units, size_t length);
 size_t wide_utf32_first_fault_item(const uint32_t *units, size_t length);
 
 /*
- * Returns the number of ill-formed sequences: units of UTF-16 or UTF-32 that belong to no character, or maximal subparts
- * of ill-formed sequences of UTF-8 (Unicode Standard, section 3.9). It is 0 if the text is well formed. Under WIDE_EACH
- * the lossy conversions write so many U+FFFD in their place.
+ * Returns the number of ill-formed sequences: units of UTF-16 or UTF-32 that belong to no character, or maximal
+ * subparts of ill-formed sequences of UTF-8 (Unicode Standard, section 3.9). It is 0 if the text is well formed. Under
+ * WIDE_EACH the lossy conversions write so many U+FFFD in their place.
  */
 size_t wide_utf16_fault_count(const uint16_t *units, size_t length);
 size_t wide_utf32_fault_count(const uint32_t *units, size_t length);
@@ -218,8 +219,8 @@ size_t wide_utf16_find_ignore_ascii_case(const uint16_t *units, size_t length, c
 size_t wide_utf32_find_ignore_ascii_case(const uint32_t *units, size_t length, const uint32_t *needle, size_t needle_length);
 
 /*
- * Returns 1 if both texts have the same units without regard to the case of ASCII letters, and 0 if they do not. Letters
- * past ASCII are compared as they are.
+ * Returns 1 if both texts have the same units without regard to the case of ASCII letters, and 0 if they do not.
+ * Letters past ASCII are compared as they are.
  */
 uint32_t wide_utf16_eq_ignore_ascii_case(const uint16_t *units, size_t length, const uint16_t *other, size_t other_length);
 uint32_t wide_utf32_eq_ignore_ascii_case(const uint32_t *units, size_t length, const uint32_t *other, size_t other_length);
@@ -338,13 +339,16 @@ size_t wide_utf8_to_utf32(const uint8_t *text, size_t length, uint32_t *units, s
 size_t wide_utf16_to_utf32(const uint16_t *utf16, size_t length, uint32_t *utf32, size_t capacity);
 size_t wide_utf32_to_utf16(const uint32_t *utf32, size_t length, uint16_t *utf16, size_t capacity);
 
-/* Converts any units of UTF-16 to UTF-32, or any units of UTF-32 to UTF-16, and writes U+FFFD for each ill-formed unit. */
+/*
+ * Converts any units of UTF-16 to UTF-32, or any units of UTF-32 to UTF-16, and writes U+FFFD for each ill-formed
+ * unit.
+ */
 size_t wide_utf16_to_utf32_lossy(const uint16_t *utf16, size_t length, uint32_t *utf32, size_t capacity);
 size_t wide_utf32_to_utf16_lossy(const uint32_t *utf32, size_t length, uint16_t *utf16, size_t capacity);
 
 /*
- * Converts any units of UTF-16 to UTF-32, or any units of UTF-32 to UTF-16, and replaces ill-formed units by the policy.
- * Returns WIDE_FAULT if the policy is invalid.
+ * Converts any units of UTF-16 to UTF-32, or any units of UTF-32 to UTF-16, and replaces ill-formed units by the
+ * policy. Returns WIDE_FAULT if the policy is invalid.
  */
 size_t wide_utf16_to_utf32_lossy_with(const uint16_t *utf16, size_t length, uint32_t policy, uint32_t *utf32, size_t capacity);
 size_t wide_utf32_to_utf16_lossy_with(const uint32_t *utf32, size_t length, uint32_t policy, uint16_t *utf16, size_t capacity);
@@ -387,16 +391,16 @@ size_t wide_utf16_to_ascii_uppercase(const uint16_t *units, size_t length, uint1
 size_t wide_utf32_to_ascii_uppercase(const uint32_t *units, size_t length, uint32_t *upper, size_t capacity);
 
 /*
- * Copies bytes to units, in the byte order of the bytes (Unicode Standard, D96, D97, D99 and D100). `length` is in bytes,
- * and the result in units. The units may have any values, also ill-formed ones. Returns WIDE_FAULT if part of a unit is
- * left at the end, that is, if `length` is no multiple of 2, or of 4 for UTF-32, or if the order is invalid.
+ * Copies bytes to units, in the byte order of the bytes (Unicode Standard, D96, D97, D99 and D100). `length` is in
+ * bytes, and the result in units. The units may have any values, also ill-formed ones. Returns WIDE_FAULT if part of a
+ * unit is left at the end, that is, if `length` is no multiple of 2, or of 4 for UTF-32, or if the order is invalid.
  */
 size_t wide_utf16_from_bytes(const uint8_t *bytes, size_t length, uint32_t order, uint16_t *units, size_t capacity);
 size_t wide_utf32_from_bytes(const uint8_t *bytes, size_t length, uint32_t order, uint32_t *units, size_t capacity);
 
 /*
- * Copies units to bytes, in a byte order. `length` is in units, and the result in bytes: 2 for each unit of UTF-16, and 4
- * for each unit of UTF-32. Returns WIDE_FAULT if the order is invalid.
+ * Copies units to bytes, in a byte order. `length` is in units, and the result in bytes: 2 for each unit of UTF-16, and
+ * 4 for each unit of UTF-32. Returns WIDE_FAULT if the order is invalid.
  */
 size_t wide_utf16_to_bytes(const uint16_t *units, size_t length, uint32_t order, uint8_t *bytes, size_t capacity);
 size_t wide_utf32_to_bytes(const uint32_t *units, size_t length, uint32_t order, uint8_t *bytes, size_t capacity);
@@ -462,9 +466,9 @@ typedef struct WideConverter {
 } WideConverter;
 
 /*
- * Begins a conversion from one scheme to another, given by numbers of WideScheme. The policy is a number of WideLossy or
- * WIDE_STRICT. If `bom` is not 0, a BOM is written before the text. Returns 1. If a number is invalid, it returns 0 and
- * leaves the converter unchanged.
+ * Begins a conversion from one scheme to another, given by numbers of WideScheme. The policy is a number of WideLossy
+ * or WIDE_STRICT. If `bom` is not 0, a BOM is written before the text. Returns 1. If a number is invalid, it returns 0
+ * and leaves the converter unchanged.
  */
 uint32_t wide_convert_start(WideConverter *converter, uint32_t from, uint32_t to, uint32_t policy, uint32_t bom);
 
@@ -473,12 +477,12 @@ uint32_t wide_convert_start(WideConverter *converter, uint32_t from, uint32_t to
  * follow, and another number if these are the last ones. Returns how many bytes were written. Then `end` says why it
  * stopped:
  *
- *  - WIDE_NEEDS_INPUT: all input was read. Call it with the next bytes. If these were the last ones, the text has ended,
- *    and `kept` is not 0 if it ended within a unit.
+ *  - WIDE_NEEDS_INPUT: all input was read. Call it with the next bytes. If these were the last ones, the text has
+ *    ended, and `kept` is not 0 if it ended within a unit.
  *  - WIDE_NO_SPACE: fewer than 8 bytes of the output are left. Call it again with more space and the bytes after the
  *    first `read` ones. With a capacity of less than 8 nothing is read or written.
- *  - WIDE_AT_FAULT: an ill-formed sequence was read, and nothing was written for it. Only WIDE_STRICT stops there. To go
- *    on after it, call it again with the bytes after the first `read` ones.
+ *  - WIDE_AT_FAULT: an ill-formed sequence was read, and nothing was written for it. Only WIDE_STRICT stops there. To
+ *    go on after it, call it again with the bytes after the first `read` ones.
  *
  * What is written does not depend on the lengths of the pieces. The bytes of the output after those written may be
  * overwritten, up to the capacity. To end a text without more bytes, call it with a length of 0 and `is_last`.
