@@ -207,6 +207,18 @@ TO(utf16_to_ascii_lowercase, uint16_t, uint16_t)
 TO(utf32_to_ascii_lowercase, uint32_t, uint32_t)
 TO(utf16_to_ascii_uppercase, uint16_t, uint16_t)
 TO(utf32_to_ascii_uppercase, uint32_t, uint32_t)
+TO(utf16_to_utf32_lossy, uint16_t, uint32_t)
+TO(utf32_to_utf16_lossy, uint32_t, uint16_t)
+TO(utf16_to_wtf8, uint16_t, uint8_t)
+TO(wtf8_to_utf16, uint8_t, uint16_t)
+TO(utf16_swap_bytes, uint16_t, uint16_t)
+TO(utf32_swap_bytes, uint32_t, uint32_t)
+WITH(utf16_from_bytes, uint8_t, uint16_t)
+WITH(utf32_from_bytes, uint8_t, uint32_t)
+WITH(utf16_to_bytes, uint16_t, uint8_t)
+WITH(utf32_to_bytes, uint32_t, uint8_t)
+WITH(utf16_to_utf32_lossy_with, uint16_t, uint32_t)
+WITH(utf32_to_utf16_lossy_with, uint32_t, uint16_t)
 WITH(utf16_to_utf8_lossy_with, uint16_t, uint8_t)
 WITH(utf32_to_utf8_lossy_with, uint32_t, uint8_t)
 WITH(utf8_to_utf16_lossy_with, uint8_t, uint16_t)
@@ -236,6 +248,10 @@ static const struct conversion {
     {"wide_utf32_to_utf8_lossy", call_utf32_to_utf8_lossy, 4, 1, WIDE_EACH, WIDE_EACH},
     {"wide_utf8_to_utf16_lossy", call_utf8_to_utf16_lossy, 1, 2, WIDE_EACH, WIDE_EACH},
     {"wide_utf8_to_utf32_lossy", call_utf8_to_utf32_lossy, 1, 4, WIDE_EACH, WIDE_EACH},
+    {"wide_utf16_to_utf32_lossy", call_utf16_to_utf32_lossy, 2, 4, WIDE_EACH, WIDE_EACH},
+    {"wide_utf32_to_utf16_lossy", call_utf32_to_utf16_lossy, 4, 2, WIDE_EACH, WIDE_EACH},
+    {"wide_utf16_to_utf32_lossy_with", call_utf16_to_utf32_lossy_with, 2, 4, WIDE_EACH, WIDE_SKIP + 1},
+    {"wide_utf32_to_utf16_lossy_with", call_utf32_to_utf16_lossy_with, 4, 2, WIDE_EACH, WIDE_SKIP + 1},
     {"wide_utf16_repair", call_utf16_repair, 2, 2, WIDE_EACH, WIDE_EACH},
     {"wide_utf32_repair", call_utf32_repair, 4, 4, WIDE_EACH, WIDE_EACH},
     {"wide_utf16_to_utf8_lossy_with", call_utf16_to_utf8_lossy_with, 2, 1, WIDE_EACH, WIDE_SKIP + 1},
@@ -250,6 +266,22 @@ static const struct conversion cases[] = {
     {"wide_utf32_to_ascii_lowercase", call_utf32_to_ascii_lowercase, 4, 4, 0, 0},
     {"wide_utf16_to_ascii_uppercase", call_utf16_to_ascii_uppercase, 2, 2, 1, 1},
     {"wide_utf32_to_ascii_uppercase", call_utf32_to_ascii_uppercase, 4, 4, 1, 1},
+};
+
+/* Conversions to WTF-8 and back, and those between units and bytes, whose policy is a byte order, by width. */
+static const struct conversion to_wtf8 = {"wide_utf16_to_wtf8", call_utf16_to_wtf8, 2, 1, 0, 0};
+static const struct conversion from_wtf8 = {"wide_wtf8_to_utf16", call_wtf8_to_utf16, 1, 2, 0, 0};
+static const struct conversion swaps[] = {
+    {"wide_utf16_swap_bytes", call_utf16_swap_bytes, 2, 2, 0, 0},
+    {"wide_utf32_swap_bytes", call_utf32_swap_bytes, 4, 4, 0, 0},
+};
+static const struct conversion to_bytes[] = {
+    {"wide_utf16_to_bytes", call_utf16_to_bytes, 2, 1, WIDE_LITTLE_ENDIAN, WIDE_NO_BOM},
+    {"wide_utf32_to_bytes", call_utf32_to_bytes, 4, 1, WIDE_LITTLE_ENDIAN, WIDE_NO_BOM},
+};
+static const struct conversion from_bytes[] = {
+    {"wide_utf16_from_bytes", call_utf16_from_bytes, 1, 2, WIDE_LITTLE_ENDIAN, WIDE_NO_BOM},
+    {"wide_utf32_from_bytes", call_utf32_from_bytes, 1, 4, WIDE_LITTLE_ENDIAN, WIDE_NO_BOM},
 };
 
 /* The conversions of UTF-16 in bytes. Both read the byte order from `order`, and the lossy one reads `fault_before`. */
@@ -310,22 +342,32 @@ static void check_counts(const void *from, const struct text *text, const struct
     size_t n = text->length, fault = fault_of(items), is_valid = fault == items->count;
     for (int width = 0; width < 3; width++)
         convert(items, 1 << width, -1, &to[width]);
-    size_t characters = to[2].result, item = is_valid ? SIZE_MAX : fault;
+    size_t characters = to[2].result, item = is_valid ? SIZE_MAX : fault, faults = 0, is_ascii = 1;
+    for (size_t at = 0; at < items->count; at++)
+        faults += items->item[at] == FAULT;
+    for (size_t at = 0; at < n; at++)
+        is_ascii &= text->element[at] < 0x80;
     if (text->width == 1) {
         equal("wide_utf8_first_fault", wide_utf8_first_fault(from, n), items->offset[fault]);
         equal("wide_utf8_char_count", wide_utf8_char_count(from, n), characters);
+        equal("wide_utf8_fault_count", wide_utf8_fault_count(from, n), faults);
+        equal("wide_utf8_is_ascii", wide_utf8_is_ascii(from, n), is_ascii);
         equal("wide_utf8_utf16_length", wide_utf8_utf16_length(from, n), to[1].result);
         equal("wide_utf8_utf32_length", wide_utf8_utf32_length(from, n), characters);
     } else if (text->width == 2) {
         equal("wide_utf16_first_fault", wide_utf16_first_fault(from, n), items->offset[fault]);
         equal("wide_utf16_first_fault_item", wide_utf16_first_fault_item(from, n), item);
         equal("wide_utf16_char_count", wide_utf16_char_count(from, n), characters);
+        equal("wide_utf16_fault_count", wide_utf16_fault_count(from, n), faults);
+        equal("wide_utf16_is_ascii", wide_utf16_is_ascii(from, n), is_ascii);
         equal("wide_utf16_utf8_length", wide_utf16_utf8_length(from, n), to[0].result);
         equal("wide_utf16_utf32_length", wide_utf16_utf32_length(from, n), characters);
     } else {
         equal("wide_utf32_first_fault", wide_utf32_first_fault(from, n), items->offset[fault]);
         equal("wide_utf32_first_fault_item", wide_utf32_first_fault_item(from, n), item);
         equal("wide_utf32_char_count", wide_utf32_char_count(from, n), characters);
+        equal("wide_utf32_fault_count", wide_utf32_fault_count(from, n), faults);
+        equal("wide_utf32_is_ascii", wide_utf32_is_ascii(from, n), is_ascii);
         equal("wide_utf32_utf8_length", wide_utf32_utf8_length(from, n), to[0].result);
         equal("wide_utf32_utf16_length", wide_utf32_utf16_length(from, n), to[1].result);
     }
@@ -567,6 +609,207 @@ static void make_text(struct text *text, int width) {
         text->length--;
 }
 
+/* Checks the greatest offset that splits no item, before a random offset. */
+static void check_boundary(const void *from, const struct text *text, const struct items *items) {
+    size_t most = random_below((uint32_t)text->length + 3), wanted = 0;
+    for (size_t at = 0; at <= items->count; at++)
+        if (items->offset[at] <= most)
+            wanted = items->offset[at];
+    equal("wide_utf16_floor_char_boundary", wide_utf16_floor_char_boundary(from, text->length, most), wanted);
+}
+
+/* Checks the repair of units where they are. */
+static void check_repair(const struct text *text, const struct items *items, unsigned char *end) {
+    static struct wanted wanted;
+    size_t faults = 0;
+    for (size_t at = 0; at < items->count; at++)
+        faults += items->item[at] == FAULT;
+    convert(items, text->width, WIDE_EACH, &wanted);
+    void *units = at_edge(end, text);
+    if (text->width == 2)
+        equal("wide_utf16_repair_in_place", wide_utf16_repair_in_place(units, text->length), faults);
+    else
+        equal("wide_utf32_repair_in_place", wide_utf32_repair_in_place(units, text->length), faults);
+    for (size_t at = 0; at < text->length; at++)
+        if (load(units, text->width, at) != wanted.text.element[at])
+            fail("another text");
+}
+
+static size_t call_part(int from, int to, const void *text, size_t length, void *buffer, size_t size, size_t *read) {
+    if (from == 1)
+        return to == 2 ? wide_utf8_to_utf16_part(text, length, buffer, size, read) : wide_utf8_to_utf32_part(text, length, buffer, size, read);
+    if (from == 2)
+        return to == 1 ? wide_utf16_to_utf8_part(text, length, buffer, size, read) : wide_utf16_to_utf32_part(text, length, buffer, size, read);
+    return to == 1 ? wide_utf32_to_utf8_part(text, length, buffer, size, read) : wide_utf32_to_utf16_part(text, length, buffer, size, read);
+}
+
+/* Checks conversions of as much of a text as fits into a buffer, which ends where memory ends or has elements after it. */
+static void check_part(int to, const void *from, const struct text *text, const struct items *items, unsigned char *end) {
+    static struct text wanted, one;
+    const uint32_t filler = 0xa5a5a5a5u >> 8 * (4 - to);
+    size_t size = random_below(4 * (uint32_t)text->length + 5), after = random_below(2) * 70, at = 0, read = SIZE_MAX;
+    unsigned char *buffer = end - (size + after) * (size_t)to;
+    for (size_t k = 0; k < size + after; k++)
+        store(buffer, to, k, filler);
+    wanted.width = one.width = to;
+    wanted.length = 0;
+    for (; at < items->count && items->item[at] != FAULT; at++) {
+        one.length = 0;
+        encode(&one, items->item[at]);
+        if (wanted.length + one.length > size)
+            break;
+        encode(&wanted, items->item[at]);
+    }
+    size_t written = call_part(text->width, to, from, text->length, size == 0 ? NULL : buffer, size, &read);
+    equal("a conversion of a part", written, wanted.length);
+    equal("a conversion of a part", read, items->offset[at]);
+    for (size_t k = 0; k < size + after; k++)
+        if (load(buffer, to, k) != (k < written ? wanted.element[k] : filler))
+            fail(k < written ? "another text" : "written outside");
+}
+
+/* Appends the bytes of a text in an order. */
+static void put_bytes(struct text *bytes, const struct text *text, uint32_t to_order) {
+    for (size_t at = 0; at < text->length; at++)
+        for (int byte = 0; byte < text->width; byte++)
+            put(bytes, text->element[at] >> 8 * (to_order == WIDE_LITTLE_ENDIAN ? byte : text->width - 1 - byte) & 0xff);
+}
+
+/* Checks units as bytes, bytes as units, and units whose bytes are swapped. */
+static void check_unit_bytes(const void *from, const struct text *text, unsigned char *ends[3]) {
+    static struct wanted bytes, units, swapped;
+    int wide = text->width == 4;
+    for (uint32_t to_order = WIDE_LITTLE_ENDIAN; to_order <= WIDE_NO_BOM; to_order++) {
+        bytes.text.width = 1;
+        bytes.text.length = 0;
+        if (to_order != WIDE_NO_BOM)
+            put_bytes(&bytes.text, text, to_order);
+        bytes.result = to_order == WIDE_NO_BOM ? WIDE_FAULT : bytes.text.length;
+        check_buffers(&to_bytes[wide], from, text->length, (int)to_order, &bytes, ends[2]);
+        size_t cut = random_below(2) == 0 ? 0 : random_below((uint32_t)text->width);
+        bytes.text.length -= bytes.text.length < cut ? 0 : cut;
+        units.text = *text;
+        units.text.length = 0;
+        units.result = WIDE_FAULT;
+        if (to_order != WIDE_NO_BOM && bytes.text.length % (size_t)text->width == 0) {
+            units.text.length = bytes.text.length / (size_t)text->width;
+            units.result = units.text.length;
+        }
+        check_buffers(&from_bytes[wide], at_edge(ends[1], &bytes.text), bytes.text.length, (int)to_order, &units, ends[2]);
+    }
+    swapped.text.width = text->width;
+    swapped.text.length = swapped.result = text->length;
+    for (size_t at = 0; at < text->length; at++) {
+        uint32_t unit = text->element[at];
+        swapped.text.element[at] = wide ? unit << 24 | (unit << 8 & 0xff0000) | (unit >> 8 & 0xff00) | unit >> 24 : (unit << 8 & 0xff00) | unit >> 8;
+    }
+    check_buffers(&swaps[wide], from, text->length, 0, &swapped, ends[2]);
+}
+
+/* Checks units of UTF-16 as WTF-8, in which an unpaired surrogate has the three bytes of its number. */
+static void check_wtf8(const void *from, const struct text *text, const struct items *items, unsigned char *ends[3]) {
+    static struct wanted bytes, units;
+    bytes.text.width = 1;
+    bytes.text.length = 0;
+    for (size_t at = 0; at < items->count; at++)
+        encode(&bytes.text, items->item[at] == FAULT ? text->element[items->offset[at]] : items->item[at]);
+    bytes.result = bytes.text.length;
+    equal("wide_utf16_wtf8_length", wide_utf16_wtf8_length(from, text->length), bytes.result);
+    check_buffers(&to_wtf8, from, text->length, 0, &bytes, ends[2]);
+    units.text = *text;
+    units.result = text->length;
+    const void *wtf8 = at_edge(ends[1], &bytes.text);
+    equal("wide_wtf8_utf16_length", wide_wtf8_utf16_length(wtf8, bytes.result), units.result);
+    equal("wide_wtf8_first_fault", wide_wtf8_first_fault(wtf8, bytes.result), bytes.result);
+    check_buffers(&from_wtf8, wtf8, bytes.result, 0, &units, ends[2]);
+}
+
+/*
+ * Checks the first fault of bytes as WTF-8. Surrogates are characters there, so it is that of UTF-8 unless that is one of
+ * theirs.
+ */
+static void check_wtf8_faults(const void *from, const struct text *text, const struct items *items) {
+    size_t fault = fault_of(items), offset = items->offset[fault];
+    if (fault == items->count || text->element[offset] != 0xed)
+        equal("wide_wtf8_first_fault", wide_wtf8_first_fault(from, text->length), offset);
+    size_t units = wide_wtf8_utf16_length(from, text->length);
+    if ((units == WIDE_FAULT) != (wide_wtf8_first_fault(from, text->length) < text->length))
+        fail("a fault and no fault");
+}
+
+/* The schemes of a width in each byte order. */
+static uint32_t scheme_of(int width, uint32_t its_order) {
+    return width == 1 ? WIDE_UTF8 : (width == 2 ? WIDE_UTF16LE : WIDE_UTF32LE) + its_order;
+}
+
+/* Returns how many items end at or before an offset in bytes, and sets `*faults` to how many of these are faults. */
+static size_t items_before(const struct items *items, size_t width, uint64_t offset, size_t *faults) {
+    size_t at = 0;
+    for (*faults = 0; at < items->count && items->offset[at + 1] * width <= offset; at++)
+        *faults += items->item[at] == FAULT;
+    return at;
+}
+
+/*
+ * Converts a text between encoding schemes in random pieces, into random space, and compares what is written, the faults
+ * at which it stops, and its position, with what the whole text becomes.
+ */
+static void check_converter(int to, const struct text *text, const struct items *items, unsigned char *ends[3]) {
+    static struct text bytes, wanted_bytes, got;
+    static struct wanted wanted;
+    uint32_t in = random_below(2), out = random_below(2), policy = random_below(4), bom = random_below(2);
+    WideConverter converter;
+    bytes.width = wanted_bytes.width = got.width = 1;
+    bytes.length = wanted_bytes.length = got.length = 0;
+    put_bytes(&bytes, text, in);
+    convert(items, to, policy == WIDE_STRICT ? WIDE_SKIP : (int)policy, &wanted);
+    if (bom) {
+        struct text mark = {to, 1, {0xfeff}};
+        if (to == 1)
+            mark = (struct text){to, 3, {0xef, 0xbb, 0xbf}};
+        put_bytes(&wanted_bytes, &mark, out);
+    }
+    put_bytes(&wanted_bytes, &wanted.text, out);
+    const uint8_t *from = at_edge(ends[0], &bytes);
+    equal("wide_convert_start", wide_convert_start(&converter, scheme_of(text->width, in), scheme_of(to, out), policy, bom), 1);
+    for (size_t read = 0, faults = 0, more = 0;;) {
+        size_t length = random_below(4) == 0 ? bytes.length - read : random_below((uint32_t)(bytes.length - read) + 1);
+        size_t size = random_below(4) == 0 ? 8 : random_below(400);
+        uint32_t is_last = length == bytes.length - read && (more = random_below(2));
+        uint8_t *space = (uint8_t *)ends[2] - size;
+        size_t written = wide_convert_push(&converter, length == 0 ? NULL : from + read, length, is_last, space, size);
+        seen_call = "wide_convert_push";
+        if (written > size || converter.read > length || got.length + written > wanted_bytes.length)
+            fail("too much");
+        for (size_t at = 0; at < written; at++)
+            put(&got, space[at]);
+        read += converter.read;
+        size_t seen, count = items_before(items, (size_t)text->width, converter.bytes, &seen);
+        if (converter.bytes + converter.kept != read || converter.items != count || converter.faults != seen)
+            fail("another position");
+        if (converter.end == WIDE_AT_FAULT) {
+            while (faults < items->count && items->item[faults] != FAULT)
+                faults++;
+            if (policy != WIDE_STRICT || converter.fault_item != faults || converter.fault_offset != items->offset[faults] * (size_t)text->width ||
+                converter.fault_unit != text->element[items->offset[faults]])
+                fail("another fault");
+            faults++;
+        }
+        if (converter.end == WIDE_NO_SPACE && size - written >= 8)
+            fail("there is space");
+        if (converter.end == WIDE_NEEDS_INPUT && is_last)
+            break;
+    }
+    equal("wide_convert_push", got.length, wanted_bytes.length);
+    for (size_t at = 0; at < got.length; at++)
+        if (got.element[at] != wanted_bytes.element[at])
+            fail("another text");
+    WideConverter other = converter;
+    other.to = 8;
+    equal("wide_convert_push", wide_convert_push(&other, from, 0, 1, NULL, 0), WIDE_FAULT);
+    equal("wide_convert_start", wide_convert_start(&other, 8, 0, 0, 0), 0);
+}
+
 static void check_text(int width, unsigned char *ends[3]) {
     static struct text text;
     static struct items items;
@@ -582,8 +825,23 @@ static void check_text(int width, unsigned char *ends[3]) {
     for (size_t at = 0; at < sizeof conversions / sizeof conversions[0]; at++)
         if (conversions[at].from == width)
             check_conversion(&conversions[at], from, text.length, &items, ends[2]);
-    if (width == 2)
+    for (int to = 1; to <= 4; to *= 2) {
+        if (to != width)
+            check_part(to, from, &text, &items, ends[2]);
+        check_converter(to, &text, &items, ends);
+        at_edge(ends[0], &text);
+    }
+    if (width == 1)
+        check_wtf8_faults(from, &text, &items);
+    else {
+        check_unit_bytes(from, &text, ends);
+        check_repair(&text, &items, ends[1]);
+    }
+    if (width == 2) {
+        check_boundary(from, &text, &items);
+        check_wtf8(from, &text, &items, ends);
         check_bytes(&text, &items, ends);
+    }
 }
 
 int main(int count, char **arguments) {

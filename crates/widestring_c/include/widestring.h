@@ -1,5 +1,6 @@
 /*
- * Conversions, checks, searches and comparisons of UTF-16, UTF-32 and UTF-8 for C programs. The caller supplies all buffers.
+ * Conversions, checks, searches and comparisons of UTF-16, UTF-32 and UTF-8 for C programs. The caller supplies all
+ * buffers.
  *
  * For all input, well formed or not, each function is proved to do what its comment says, except how long it takes, if
  * the caller keeps these rules. The functions do not check the rules:
@@ -70,6 +71,11 @@ enum WideLossy {
 };
 
 /*
+ * A policy that only wide_convert_start accepts: the conversion stops at each ill-formed sequence.
+ */
+#define WIDE_STRICT 3
+
+/*
  * Byte orders of UTF-16 in bytes: little endian, the low byte first, or big endian. WIDE_NO_BOM is not an order:
  * wide_utf16_bytes_order returns it if there is no BOM.
  *
@@ -83,6 +89,32 @@ enum WideOrder {
     WIDE_NO_BOM = 2
 };
 
+/*
+ * Encoding schemes (Unicode Standard, D95 to D101) and WTF-8: how a text is stored as bytes. WIDE_UTF16 and WIDE_UTF32
+ * are read in the order of their BOM, or little-endian without one, and written little-endian. In the others a BOM is
+ * the character U+FEFF. WTF-8 is UTF-8 in which a surrogate that belongs to no pair has the three bytes of its code
+ * point, so it can hold any units of UTF-16.
+ *
+ * A scheme is passed as a 32-bit number.
+ */
+enum WideScheme {
+    WIDE_UTF8 = 0,    /* UTF-8. */
+    WIDE_UTF16LE = 1, /* UTF-16, little-endian. */
+    WIDE_UTF16BE = 2, /* UTF-16, big-endian. */
+    WIDE_UTF16 = 3,   /* UTF-16, with or without a BOM. */
+    WIDE_UTF32LE = 4, /* UTF-32, little-endian. */
+    WIDE_UTF32BE = 5, /* UTF-32, big-endian. */
+    WIDE_UTF32 = 6,   /* UTF-32, with or without a BOM. */
+    WIDE_WTF8 = 7     /* WTF-8. */
+};
+
+/* Why wide_convert_push stopped: a value of the member `end` of WideConverter. */
+enum WideEnd {
+    WIDE_NEEDS_INPUT = 0, /* All input was read. */
+    WIDE_NO_SPACE = 1,    /* Fewer than 8 bytes of the output are left. */
+    WIDE_AT_FAULT = 2     /* An ill-formed sequence was read, under the policy WIDE_STRICT. */
+};
+
 /* Returns the offset of the first ill-formed unit of UTF-16, or `length` if there is none. */
 size_t wide_utf16_first_fault(const uint16_t *units, size_t length);
 
@@ -93,12 +125,32 @@ size_t wide_utf32_first_fault(const uint32_t *units, size_t length);
 size_t wide_utf8_first_fault(const uint8_t *text, size_t length);
 
 /*
+ * Returns the offset of the first byte of the first fault of WTF-8, or `length` if there is none: an ill-formed
+ * sequence of UTF-8 that is no surrogate, or the second half of a surrogate pair whose halves are written apart.
+ */
+size_t wide_wtf8_first_fault(const uint8_t *text, size_t length);
+
+/*
  * Returns how many characters precede the first ill-formed unit, or WIDE_NOT_FOUND if the text is well formed. A
  * decoder that yields one item for each character and each ill-formed unit yields that unit as the item with this
  * index.
  */
 size_t wide_utf16_first_fault_item(const uint16_t *units, size_t length);
 size_t wide_utf32_first_fault_item(const uint32_t *units, size_t length);
+
+/*
+ * Returns the number of ill-formed sequences: units of UTF-16 or UTF-32 that belong to no character, or maximal
+ * subparts of ill-formed sequences of UTF-8 (Unicode Standard, section 3.9). It is 0 if the text is well formed. Under
+ * WIDE_EACH the lossy conversions write so many U+FFFD in their place.
+ */
+size_t wide_utf16_fault_count(const uint16_t *units, size_t length);
+size_t wide_utf32_fault_count(const uint32_t *units, size_t length);
+size_t wide_utf8_fault_count(const uint8_t *text, size_t length);
+
+/* Returns 1 if all units or bytes are ASCII, at most 0x7F, and 0 if they are not. An empty text is ASCII. */
+uint32_t wide_utf16_is_ascii(const uint16_t *units, size_t length);
+uint32_t wide_utf32_is_ascii(const uint32_t *units, size_t length);
+uint32_t wide_utf8_is_ascii(const uint8_t *text, size_t length);
 
 /* Returns the number of characters, or WIDE_FAULT if the text is ill-formed. */
 size_t wide_utf16_char_count(const uint16_t *units, size_t length);
@@ -120,6 +172,20 @@ size_t wide_utf8_utf16_length(const uint8_t *text, size_t length);
 size_t wide_utf8_utf32_length(const uint8_t *text, size_t length);
 size_t wide_utf16_utf32_length(const uint16_t *units, size_t length);
 size_t wide_utf32_utf16_length(const uint32_t *units, size_t length);
+
+/*
+ * Returns the length of any units of UTF-16 in WTF-8, in bytes, at most 3 for each unit; and the length of a text of
+ * WTF-8 in UTF-16, in units, or WIDE_FAULT if the bytes are not WTF-8.
+ */
+size_t wide_utf16_wtf8_length(const uint16_t *units, size_t length);
+size_t wide_wtf8_utf16_length(const uint8_t *text, size_t length);
+
+/*
+ * Returns the greatest offset, in units, that is at most `offset` and at most `length`, and that is not within a
+ * surrogate pair. It is `offset` or one less, unless `offset` is greater than `length`. An ill-formed unit is not split
+ * off from anything, so any offset before or after it will do. At most two units are read.
+ */
+size_t wide_utf16_floor_char_boundary(const uint16_t *units, size_t length, size_t offset);
 
 /* Returns the offset of the first NUL, or `length` if there is none. */
 size_t wide_utf16_first_nul(const uint16_t *units, size_t length);
@@ -153,8 +219,8 @@ size_t wide_utf16_find_ignore_ascii_case(const uint16_t *units, size_t length, c
 size_t wide_utf32_find_ignore_ascii_case(const uint32_t *units, size_t length, const uint32_t *needle, size_t needle_length);
 
 /*
- * Returns 1 if both texts have the same units without regard to the case of ASCII letters, and 0 if they do not. Letters
- * past ASCII are compared as they are.
+ * Returns 1 if both texts have the same units without regard to the case of ASCII letters, and 0 if they do not.
+ * Letters past ASCII are compared as they are.
  */
 uint32_t wide_utf16_eq_ignore_ascii_case(const uint16_t *units, size_t length, const uint16_t *other, size_t other_length);
 uint32_t wide_utf32_eq_ignore_ascii_case(const uint32_t *units, size_t length, const uint32_t *other, size_t other_length);
@@ -274,6 +340,27 @@ size_t wide_utf16_to_utf32(const uint16_t *utf16, size_t length, uint32_t *utf32
 size_t wide_utf32_to_utf16(const uint32_t *utf32, size_t length, uint16_t *utf16, size_t capacity);
 
 /*
+ * Converts any units of UTF-16 to UTF-32, or any units of UTF-32 to UTF-16, and writes U+FFFD for each ill-formed
+ * unit.
+ */
+size_t wide_utf16_to_utf32_lossy(const uint16_t *utf16, size_t length, uint32_t *utf32, size_t capacity);
+size_t wide_utf32_to_utf16_lossy(const uint32_t *utf32, size_t length, uint16_t *utf16, size_t capacity);
+
+/*
+ * Converts any units of UTF-16 to UTF-32, or any units of UTF-32 to UTF-16, and replaces ill-formed units by the
+ * policy. Returns WIDE_FAULT if the policy is invalid.
+ */
+size_t wide_utf16_to_utf32_lossy_with(const uint16_t *utf16, size_t length, uint32_t policy, uint32_t *utf32, size_t capacity);
+size_t wide_utf32_to_utf16_lossy_with(const uint32_t *utf32, size_t length, uint32_t policy, uint16_t *utf16, size_t capacity);
+
+/*
+ * Converts any units of UTF-16 to WTF-8, which never fails, and WTF-8 to the units of UTF-16 that it was made of, well
+ * formed or not. The second call returns WIDE_FAULT if the bytes are not WTF-8.
+ */
+size_t wide_utf16_to_wtf8(const uint16_t *units, size_t length, uint8_t *text, size_t capacity);
+size_t wide_wtf8_to_utf16(const uint8_t *text, size_t length, uint16_t *units, size_t capacity);
+
+/*
  * Converts any bytes to UTF-16 or to UTF-32, and writes U+FFFD for each maximal subpart of an ill-formed sequence of
  * UTF-8: the longest prefix that begins a character but does not continue as one, or a byte that begins none (Unicode
  * Standard, section 3.9, "U+FFFD Substitution of Maximal Subparts").
@@ -302,6 +389,108 @@ size_t wide_utf16_to_ascii_lowercase(const uint16_t *units, size_t length, uint1
 size_t wide_utf32_to_ascii_lowercase(const uint32_t *units, size_t length, uint32_t *lower, size_t capacity);
 size_t wide_utf16_to_ascii_uppercase(const uint16_t *units, size_t length, uint16_t *upper, size_t capacity);
 size_t wide_utf32_to_ascii_uppercase(const uint32_t *units, size_t length, uint32_t *upper, size_t capacity);
+
+/*
+ * Copies bytes to units, in the byte order of the bytes (Unicode Standard, D96, D97, D99 and D100). `length` is in
+ * bytes, and the result in units. The units may have any values, also ill-formed ones. Returns WIDE_FAULT if part of a
+ * unit is left at the end, that is, if `length` is no multiple of 2, or of 4 for UTF-32, or if the order is invalid.
+ */
+size_t wide_utf16_from_bytes(const uint8_t *bytes, size_t length, uint32_t order, uint16_t *units, size_t capacity);
+size_t wide_utf32_from_bytes(const uint8_t *bytes, size_t length, uint32_t order, uint32_t *units, size_t capacity);
+
+/*
+ * Copies units to bytes, in a byte order. `length` is in units, and the result in bytes: 2 for each unit of UTF-16, and
+ * 4 for each unit of UTF-32. Returns WIDE_FAULT if the order is invalid.
+ */
+size_t wide_utf16_to_bytes(const uint16_t *units, size_t length, uint32_t order, uint8_t *bytes, size_t capacity);
+size_t wide_utf32_to_bytes(const uint32_t *units, size_t length, uint32_t order, uint8_t *bytes, size_t capacity);
+
+/* Copies the units, and reverses the order of the bytes in each. The length of the result is `length`. */
+size_t wide_utf16_swap_bytes(const uint16_t *units, size_t length, uint16_t *swapped, size_t capacity);
+size_t wide_utf32_swap_bytes(const uint32_t *units, size_t length, uint32_t *swapped, size_t capacity);
+
+/* The rules of results and capacities above do not apply to the functions below. */
+
+/*
+ * Replaces each ill-formed unit by U+FFFD where it is, and returns how many units were replaced. The result is well
+ * formed.
+ */
+size_t wide_utf16_repair_in_place(uint16_t *units, size_t length);
+size_t wide_utf32_repair_in_place(uint32_t *units, size_t length);
+
+/*
+ * Converts as many characters as fit into the buffer. It stops at the end of the input, at the first ill-formed
+ * sequence, or where the next character does not fit. Stores in `*read` how many elements of the input were read, and
+ * returns how many elements were written. No element after these is written. All that was read was converted, so the
+ * next call begins `*read` elements later:
+ *
+ *     while (length > 0) {
+ *         size_t read, written = wide_utf16_to_utf8_part(units, length, buffer, sizeof buffer, &read);
+ *         if (read == 0) break;                        // an ill-formed unit, if the buffer has at least 4 bytes
+ *         fwrite(buffer, 1, written, stdout);
+ *         units += read;
+ *         length -= read;
+ *     }
+ *
+ * A character has at most 4 bytes of UTF-8 or 2 units of UTF-16. If nothing was read though the buffer has that much
+ * space, and `length` is not 0, an ill-formed sequence is next.
+ */
+size_t wide_utf16_to_utf8_part(const uint16_t *units, size_t length, uint8_t *text, size_t capacity, size_t *read);
+size_t wide_utf32_to_utf8_part(const uint32_t *units, size_t length, uint8_t *text, size_t capacity, size_t *read);
+size_t wide_utf16_to_utf32_part(const uint16_t *utf16, size_t length, uint32_t *utf32, size_t capacity, size_t *read);
+size_t wide_utf32_to_utf16_part(const uint32_t *utf32, size_t length, uint16_t *utf16, size_t capacity, size_t *read);
+size_t wide_utf8_to_utf16_part(const uint8_t *text, size_t length, uint16_t *units, size_t capacity, size_t *read);
+size_t wide_utf8_to_utf32_part(const uint8_t *text, size_t length, uint32_t *units, size_t capacity, size_t *read);
+
+/*
+ * A conversion of a text between encoding schemes, piece by piece, and how far the last piece came. The caller supplies
+ * it. wide_convert_start writes all members, and wide_convert_push reads and writes them. The first ten are for the
+ * caller to read; the others are the library's own. It may be copied, and does not have to be freed.
+ *
+ * An item is a character or an ill-formed sequence. A BOM of the schemes WIDE_UTF16 and WIDE_UTF32 is no item, but its
+ * bytes count. Each 64-bit number stays at 2^64 - 1 if it would be greater.
+ */
+typedef struct WideConverter {
+    size_t read;           /* How many bytes of the input of the last call were read. */
+    size_t kept;           /* How many bytes were read and belong to no item so far, at most 4. */
+    uint64_t bytes;        /* How many bytes of the text precede what was not read or is kept. */
+    uint64_t items;        /* How many items these bytes are. */
+    uint64_t faults;       /* How many of these items are ill-formed sequences. */
+    uint64_t fault_offset; /* At WIDE_AT_FAULT, how many bytes of the text precede the ill-formed sequence. Else 0. */
+    uint64_t fault_item;   /* At WIDE_AT_FAULT, how many items precede it. Else 0. */
+    uint32_t fault_unit;   /* At WIDE_AT_FAULT, its unit, or its first byte or its surrogate in UTF-8. Else 0. */
+    uint32_t end;          /* Why the last call stopped: a value of WideEnd. */
+    uint32_t from, to, policy, layout, keeps, after_high, after_fault, bom;
+    size_t bom_length;
+    uint8_t unread[4];
+} WideConverter;
+
+/*
+ * Begins a conversion from one scheme to another, given by numbers of WideScheme. The policy is a number of WideLossy
+ * or WIDE_STRICT. If `bom` is not 0, a BOM is written before the text. Returns 1. If a number is invalid, it returns 0
+ * and leaves the converter unchanged.
+ */
+uint32_t wide_convert_start(WideConverter *converter, uint32_t from, uint32_t to, uint32_t policy, uint32_t bom);
+
+/*
+ * Converts the next bytes of the text, which may end anywhere, also within a character. `is_last` is 0 if more bytes
+ * follow, and another number if these are the last ones. Returns how many bytes were written. Then `end` says why it
+ * stopped:
+ *
+ *  - WIDE_NEEDS_INPUT: all input was read. Call it with the next bytes. If these were the last ones, the text has
+ *    ended, and `kept` is not 0 if it ended within a unit.
+ *  - WIDE_NO_SPACE: fewer than 8 bytes of the output are left. Call it again with more space and the bytes after the
+ *    first `read` ones. With a capacity of less than 8 nothing is read or written.
+ *  - WIDE_AT_FAULT: an ill-formed sequence was read, and nothing was written for it. Only WIDE_STRICT stops there. To
+ *    go on after it, call it again with the bytes after the first `read` ones.
+ *
+ * What is written does not depend on the lengths of the pieces. The bytes of the output after those written may be
+ * overwritten, up to the capacity. To end a text without more bytes, call it with a length of 0 and `is_last`.
+ *
+ * Returns WIDE_FAULT, and leaves the converter and the output unchanged, if the converter holds nothing that
+ * wide_convert_start or wide_convert_push can have left.
+ */
+size_t wide_convert_push(WideConverter *converter, const uint8_t *input, size_t length, uint32_t is_last, uint8_t *output, size_t capacity);
 
 #ifdef __cplusplus
 }

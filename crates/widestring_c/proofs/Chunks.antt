@@ -32,6 +32,11 @@ pub lossy_units_end : (form : EncodingForm) (policy : Policy) (after : Bool) (us
 lossy_units_end form policy after [] empty = ap (λ is. utf8 (lossy_after policy after is)) (items-nil form) ∙ ap utf8 (lossy_after-none_left policy after)
 lossy_units_end form policy after (u ∷ us) empty = absurd (omega arith)
 
+-- No units have no lossy text of another width.
+pub lossy_between_end : (form out : EncodingForm) (policy : Policy) (after : Bool) (us : List ℕ) → length us ≡ 0 → encode out (lossy_after policy after (items form us)) ≡ []
+lossy_between_end form out policy after [] empty = ap (λ is. encode out (lossy_after policy after is)) (items-nil form) ∙ ap (encode out) (lossy_after-none_left policy after)
+lossy_between_end form out policy after (u ∷ us) empty = absurd (omega arith)
+
 -- The UTF-8 of three texts.
 pub three_texts : (a b c : List ℕ) → utf8 (a ++ (b ++ c)) ≡ utf8 a ++ (utf8 b ++ utf8 c)
 three_texts a b c = flat_map-append utf8_bytes a (b ++ c) ∙ ap (λ bs. utf8 a ++ bs) (flat_map-append utf8_bytes b c)

@@ -95,3 +95,24 @@ module _ (form : EncodingForm) where
   -- Units converted to another width are at most four times as many.
   pub units-between : (other : EncodingForm) (us : List ℕ) → IsWellFormed form us → length (encode other (chars form us)) ≤ 4 * length us
   units-between other us well = omega (arith, units-of_text_in other (chars form us), bytes-well_formed us well)
+
+  -- So are units whose faults are replaced.
+  pub units-lossy_between : (other : EncodingForm) (policy : Policy) (us : List ℕ) → length (encode other (lossy_by policy (items form us))) ≤ 4 * length us
+  units-lossy_between other policy us = omega (arith, units-of_text_in other (lossy_by policy (items form us)), bytes-lossy_by policy us)
+
+-- A character has one or two units.
+few_units : (form : EncodingForm) (c : ℕ) → (1 ≤ length (code_units form c)) × (length (code_units form c) ≤ 2)
+few_units Utf32 c = (omega arith, omega arith)
+few_units Utf16 c = elim (cases_lt c 0x1_0000) [
+  | inl below ↦ rw (one_unit c below) (omega arith, omega arith)
+  | inr from ↦ rw (two_units c from) (omega arith, omega arith)
+]
+
+-- Characters have at most twice as many units in one form as in another.
+units-twice : (form other : EncodingForm) (cs : List ℕ) → length (encode other cs) ≤ 2 * length (encode form cs)
+units-twice form other [] = omega arith
+units-twice form other (c ∷ cs) = omega (arith, (few_units form c).0, (few_units other c).1, units-twice form other cs, length-append (code_units form c) (encode form cs), length-append (code_units other c) (encode other cs))
+
+-- Well-formed units become at most two units of another width each.
+pub units-between_two : (form other : EncodingForm) (us : List ℕ) → IsWellFormed form us → length (encode other (chars form us)) ≤ 2 * length us
+units-between_two form other us well = omega (arith, units-twice form other (chars form us), ap length (encode-chars form us well))

@@ -7,3 +7,9 @@ mod ChunkUnits
 mod Repaired
 mod Signs
 mod Windows
+mod FaultCounts
+mod Converted
+mod Splits
+mod FirstChars
+mod Held
+mod Wtf8Texts

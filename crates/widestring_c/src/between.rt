@@ -1,5 +1,5 @@
 //! Converts between UTF-16 and UTF-32, into a buffer of the caller.
-ghost use Rattle.std.specs.Prelude.{◌≡◌, ◌*◌, ◌<◌, ◌≤◌, ◌-◌, ◌^◌, IfNone, IfSome, length, map, min, take, drop};
+ghost use Rattle.std.specs.Prelude.{◌≡◌, ◌*◌, ◌+◌, ◌++◌, ◌<◌, ◌≤◌, ◌-◌, ◌^◌, IfNone, IfSome, length, map, min, take, drop};
 ghost use Rattle.wide_forms.specs.EncodingForm.{Utf16, Utf32, encode};
 ghost use Rattle.wide_forms.specs.Items.{IsWellFormed, chars};
 ghost use Rattle.widestring_c.specs.Buffers.{WroteUnitsIf};
@@ -11,23 +11,29 @@ use wide_unit::{Unit, find_fault};
 
 // The size of the array, in units, that the converted units of an input of at most as many units are copied from. A
 // small array takes less time to clear.
-const FEW: usize = 32;
+pub(crate) const FEW: usize = 32;
 
 // The size of the array, in units, that the converted units of an input of more than `FEW` units are copied from: 48
 // steps of sixteen.
-const MANY: usize = 48 * 16;
+pub(crate) const MANY: usize = 48 * 16;
 
-// Converts well-formed units to units of another width, chunk by chunk, at the start of the buffer. Returns how many
-// units the result has, or `usize::MAX` if it has more.
-fn put_recoded<C: Unit, D: Unit>(units: &[C], space: &mut [D], chunk: &mut [D]) -> usize
+// Converts well-formed units to units of another width at the offset `at` of the buffer, chunk by chunk. Returns the
+// offset after the result, whether it fits or not, or `usize::MAX` if the offset is greater than that.
+pub(crate) fn put_recoded<C: Unit, D: Unit>(
+    units: &[C],
+    space: &mut [D],
+    at: usize,
+    chunk: &mut [D],
+) -> usize
     requires well_formed { IsWellFormed C.form (map C.number units.now) }
     requires space { length space.old < 2 ^ 64 - 1 }
     requires chunk { 16 ≤ length chunk.old }
-    ensures len { result ≡ min (length (encode D.form (chars C.form (map C.number units.now)))) (2 ^ 64 - 1) }
-    ensures units { result ≤ length space.old → map D.number (take result space.new) ≡ encode D.form (chars C.form (map C.number units.now)) }
+    ensures offset { result ≡ min (at + length (encode D.form (chars C.form (map C.number units.now)))) (2 ^ 64 - 1) }
+    ensures units { result ≤ length space.old → map D.number (take result space.new) ≡ map D.number (take at space.old) ++ encode D.form (chars C.form (map C.number units.now)) }
+    ensures space { length space.new ≡ length space.old }
     ensures beyond { drop result space.new ≡ drop result space.old }
 {
-    let mut at = 0;
+    let mut at = at;
     let mut rest = units;
     'chunks: while !rest.is_empty() {
         let Progress { read, written } = between_forms_prefix(rest, chunk);
@@ -46,7 +52,7 @@ fn put_valid<C: Unit, D: Unit>(units: &[C], space: &mut [D], chunk: &mut [D]) ->
     ensures { WroteUnitsIf (IsWellFormed C.form (map C.number units.now)) D.number (encode D.form (chars C.form (map C.number units.now))) space.old result space.new }
 {
     match find_fault(units) {
-        None => Some(put_recoded(units, space, chunk)),
+        None => Some(put_recoded(units, space, 0, chunk)),
         Some(_fault) => None,
     }
 }

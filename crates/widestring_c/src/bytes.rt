@@ -20,7 +20,7 @@ use wide_repair::ends_in_fault;
 use wide_unit::valid_len;
 
 // Returns the byte order with this number, or `None` if there is none.
-fn order_named(number: u32) -> Option<BoM>
+pub(crate) fn order_named(number: u32) -> Option<BoM>
     ensures { result ≡ order_named number }
 {
     match number {
@@ -31,7 +31,7 @@ fn order_named(number: u32) -> Option<BoM>
 }
 
 // Converts a number to a flag: 0 is false, any other number is true.
-fn is_set(flag: u32) -> bool
+pub(crate) fn is_set(flag: u32) -> bool
     ensures { result ≡ is_set flag }
 {
     flag != 0

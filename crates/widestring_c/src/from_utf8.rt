@@ -31,7 +31,7 @@ const WINDOW: usize = 256;
 // not, or `usize::MAX` if the offset is greater than that. `from_utf8_prefix` may overwrite units after those that it
 // reports as written. So it is given the buffer itself only as far as the rest of the text is certain to reach: four
 // bytes yield at least one unit.
-fn put_text<C: Unit>(text: &[u8], units: &mut [C], at: usize, chunk: &mut [C]) -> usize
+pub(crate) fn put_text<C: Unit>(text: &[u8], units: &mut [C], at: usize, chunk: &mut [C]) -> usize
     requires text { IsUtf8 text.now }
     requires space { length units.old < 2 ^ 64 - 1 }
     requires chunk { 2 ≤ length chunk.old }

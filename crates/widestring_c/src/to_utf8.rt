@@ -17,7 +17,12 @@ use wide_utf16_to_utf8::checked_utf16_to_utf8;
 
 // Converts well-formed units to UTF-8 at the offset `at` of the buffer, chunk by chunk, and returns the offset after
 // the result, whether it fits or not, or `usize::MAX` if the offset is greater than that.
-fn put_chunks<C: Unit>(units: &[C], text: &mut [u8], at: usize, chunk: &mut [u8]) -> usize
+pub(crate) fn put_chunks<C: Unit>(
+    units: &[C],
+    text: &mut [u8],
+    at: usize,
+    chunk: &mut [u8],
+) -> usize
     requires well_formed { IsWellFormed C.form (map C.number units.now) }
     requires chunk { 64 ≤ length chunk.old }
     ensures offset { result ≡ min (at + length (utf8 (chars C.form (map C.number units.now)))) (2 ^ 64 - 1) }

@@ -1,0 +1,18 @@
+use Rattle.std.proofs.Common.{◌≡◌, ◌-◌, ◌≤◌, length, map, take, drop}
+use Rattle.wide_forms.specs.EncodingForm.{code_units}
+use Rattle.wide_forms.specs.Items.{items}
+use Rattle.widestring_c.specs.Parts.{Converts}
+use Rattle.widestring_c.proofs.parts.put_unit_runs.Given as goal
+
+abbrev pub invariant-runs : goal.invariant-runs
+invariant-runs g l = record {
+  converts : Converts (items g.C.Unit.form) (code_units g.C.Unit.form) (code_units g.D.Unit.form) (map g.C.Unit.number l.units) l.read (map g.D.Unit.number (take l.written l.out));
+  read : l.read ≤ length l.units;
+  within : l.written ≤ length l.out;
+  space : length l.out ≡ length l.fn.out;
+  beyond : drop l.written l.out ≡ drop l.written l.fn.out;
+  chunk : 16 ≤ length l.chunk;
+}
+
+abbrev pub decreases-runs : goal.decreases-runs
+decreases-runs g l = length l.units - l.read
