@@ -63,8 +63,15 @@ _SIGNATURES = {
     "utf16_first_fault": (_SIZE, _TEXT, _SIZE),
     "utf32_first_fault": (_SIZE, _TEXT, _SIZE),
     "utf8_first_fault": (_SIZE, _TEXT, _SIZE),
+    "wtf8_first_fault": (_SIZE, _TEXT, _SIZE),
     "utf16_first_fault_item": (_SIZE, _TEXT, _SIZE),
     "utf32_first_fault_item": (_SIZE, _TEXT, _SIZE),
+    "utf16_fault_count": (_SIZE, _TEXT, _SIZE),
+    "utf32_fault_count": (_SIZE, _TEXT, _SIZE),
+    "utf8_fault_count": (_SIZE, _TEXT, _SIZE),
+    "utf16_is_ascii": (_U32, _TEXT, _SIZE),
+    "utf32_is_ascii": (_U32, _TEXT, _SIZE),
+    "utf8_is_ascii": (_U32, _TEXT, _SIZE),
     "utf16_char_count": (_SIZE, _TEXT, _SIZE),
     "utf32_char_count": (_SIZE, _TEXT, _SIZE),
     "utf8_char_count": (_SIZE, _TEXT, _SIZE),
@@ -74,6 +81,9 @@ _SIGNATURES = {
     "utf8_utf32_length": (_SIZE, _TEXT, _SIZE),
     "utf16_utf32_length": (_SIZE, _TEXT, _SIZE),
     "utf32_utf16_length": (_SIZE, _TEXT, _SIZE),
+    "utf16_wtf8_length": (_SIZE, _TEXT, _SIZE),
+    "wtf8_utf16_length": (_SIZE, _TEXT, _SIZE),
+    "utf16_floor_char_boundary": (_SIZE, _TEXT, _SIZE, _SIZE),
     "utf16_first_nul": (_SIZE, _TEXT, _SIZE),
     "utf32_first_nul": (_SIZE, _TEXT, _SIZE),
     "utf16_find_unit": (_SIZE, _TEXT, _SIZE, _U16),
@@ -102,6 +112,10 @@ _SIGNATURES = {
     "utf8_to_utf32": (_SIZE, _TEXT, _SIZE, _TEXT, _SIZE),
     "utf16_to_utf32": (_SIZE, _TEXT, _SIZE, _TEXT, _SIZE),
     "utf32_to_utf16": (_SIZE, _TEXT, _SIZE, _TEXT, _SIZE),
+    "utf16_to_utf32_lossy_with": (_SIZE, _TEXT, _SIZE, _U32, _TEXT, _SIZE),
+    "utf32_to_utf16_lossy_with": (_SIZE, _TEXT, _SIZE, _U32, _TEXT, _SIZE),
+    "utf16_to_wtf8": (_SIZE, _TEXT, _SIZE, _TEXT, _SIZE),
+    "wtf8_to_utf16": (_SIZE, _TEXT, _SIZE, _TEXT, _SIZE),
     "utf8_to_utf16_lossy_with": (_SIZE, _TEXT, _SIZE, _U32, _TEXT, _SIZE),
     "utf8_to_utf32_lossy_with": (_SIZE, _TEXT, _SIZE, _U32, _TEXT, _SIZE),
     "utf16_repair": (_SIZE, _TEXT, _SIZE, _TEXT, _SIZE),
@@ -110,6 +124,16 @@ _SIGNATURES = {
     "utf32_to_ascii_lowercase": (_SIZE, _TEXT, _SIZE, _TEXT, _SIZE),
     "utf16_to_ascii_uppercase": (_SIZE, _TEXT, _SIZE, _TEXT, _SIZE),
     "utf32_to_ascii_uppercase": (_SIZE, _TEXT, _SIZE, _TEXT, _SIZE),
+    "utf16_from_bytes": (_SIZE, _TEXT, _SIZE, _U32, _TEXT, _SIZE),
+    "utf32_from_bytes": (_SIZE, _TEXT, _SIZE, _U32, _TEXT, _SIZE),
+    "utf16_to_bytes": (_SIZE, _TEXT, _SIZE, _U32, _TEXT, _SIZE),
+    "utf32_to_bytes": (_SIZE, _TEXT, _SIZE, _U32, _TEXT, _SIZE),
+    "utf16_swap_bytes": (_SIZE, _TEXT, _SIZE, _TEXT, _SIZE),
+    "utf32_swap_bytes": (_SIZE, _TEXT, _SIZE, _TEXT, _SIZE),
+    "utf16_repair_in_place": (_SIZE, _TEXT, _SIZE),
+    "utf32_repair_in_place": (_SIZE, _TEXT, _SIZE),
+    "convert_start": (_U32, _ADDRESS, _U32, _U32, _U32, _U32),
+    "convert_push": (_SIZE, _ADDRESS, _TEXT, _SIZE, _U32, _TEXT, _SIZE),
 }
 # End of what bindings/tables makes.
 
@@ -168,6 +192,22 @@ class Scheme(enum.IntEnum):
     """
 
     # Made by bindings/tables of WideScheme:
+    # UTF-8.
+    UTF8 = 0
+    # UTF-16, little-endian.
+    UTF16LE = 1
+    # UTF-16, big-endian.
+    UTF16BE = 2
+    # UTF-16, with or without a BOM.
+    UTF16 = 3
+    # UTF-32, little-endian.
+    UTF32LE = 4
+    # UTF-32, big-endian.
+    UTF32BE = 5
+    # UTF-32, with or without a BOM.
+    UTF32 = 6
+    # WTF-8.
+    WTF8 = 7
     # End of what bindings/tables makes.
 
 
