@@ -53,7 +53,8 @@ extern "C" {
     pub fn wide_utf32_utf16_length(units: *const u32, length: usize) -> usize;
     pub fn wide_utf16_wtf8_length(units: *const u16, length: usize) -> usize;
     pub fn wide_wtf8_utf16_length(text: *const u8, length: usize) -> usize;
-    pub fn wide_utf16_floor_char_boundary(units: *const u16, length: usize, offset: usize) -> usize;
+    pub fn wide_utf16_floor_char_boundary(units: *const u16, length: usize, offset: usize)
+        -> usize;
     pub fn wide_utf16_first_nul(units: *const u16, length: usize) -> usize;
     pub fn wide_utf32_first_nul(units: *const u32, length: usize) -> usize;
     pub fn wide_utf16_find_unit(units: *const u16, length: usize, unit: u16) -> usize;
