@@ -513,6 +513,117 @@ void check_writes() {
 #endif
 }
 
+// Appends a number in this many bytes of an order.
+void put_bytes(std::string &bytes, std::uint32_t number, int length, bool is_big) {
+    for (int at = 0; at < length; at++)
+        bytes.push_back(static_cast<char>(number >> 8 * (is_big ? length - 1 - at : at)));
+}
+
+// Returns a text in a scheme, of which UTF-16 and UTF-32 are little-endian.
+std::string scheme_of(const std::u32string &text, widestring::Scheme scheme) {
+    using widestring::Scheme;
+    std::string bytes;
+    for (const char32_t c : text) {
+        if (scheme == Scheme::utf8 || scheme == Scheme::wtf8)
+            put(bytes, c);
+        else if (scheme == Scheme::utf32 || scheme == Scheme::utf32le || scheme == Scheme::utf32be)
+            put_bytes(bytes, c, 4, scheme == Scheme::utf32be);
+        else {
+            std::u16string units;
+            put(units, c);
+            for (const char16_t unit : units)
+                put_bytes(bytes, unit, 2, scheme == Scheme::utf16be);
+        }
+    }
+    return bytes;
+}
+
+constexpr widestring::Scheme schemes[] = {widestring::Scheme::utf8,    widestring::Scheme::utf16le, widestring::Scheme::utf16be, widestring::Scheme::utf16,
+                                          widestring::Scheme::utf32le, widestring::Scheme::utf32be, widestring::Scheme::utf32,   widestring::Scheme::wtf8};
+
+// Checks a conversion between two random schemes in random pieces, into little space.
+void check_pieces() {
+    const auto from = schemes[below(8)], to = schemes[below(8)];
+    const bool bom = below(2) == 0;
+    std::u32string text;
+    for (std::uint32_t left = below(9); left > 0; left--)
+        for (const std::uint32_t c = below(below(2) == 0 ? 0x80 : 0x110000); is_scalar(c);) {
+            text.push_back(c == 0xfeff ? U'a' : c);
+            break;
+        }
+    const std::string bytes = scheme_of(text, from), wanted = scheme_of(bom ? U"\ufeff" + text : text, to);
+    widestring::Converter converter(from, to, std::nullopt, bom);
+    std::string written;
+    for (std::size_t at = 0, is_done = 0; is_done == 0;) {
+        char buffer[24];
+        const std::size_t end = at + below(static_cast<std::uint32_t>(bytes.size() - at) + 1), capacity = 8 + below(17);
+        const widestring::Part part = converter.push(std::string_view(bytes).substr(at, end - at), buffer, capacity, end == bytes.size());
+        must(part.read <= end - at && part.written <= capacity, "push");
+        written.append(buffer, part.written);
+        is_done = end == bytes.size() && converter.state().end == WIDE_NEEDS_INPUT;
+        at += part.read;
+    }
+    must(written == wanted, "pieces");
+    must(converter.state().items == text.size() && converter.state().kept == 0, "state");
+    std::string appended;
+    widestring::Converter again(from, to, widestring::Lossy::each, bom);
+    must(again.append(bytes, appended, true) == bytes.size() && appended == wanted, "append");
+}
+
+// Checks the calls on any units of UTF-16 and UTF-32 that the others do not.
+void check_forms() {
+    const auto units = random_text<std::u16string>();
+    const auto wide = random_text<std::u32string>();
+    const Items items = items_of(std::u16string_view(units)), wide_items = items_of(std::u32string_view(wide));
+    const auto faults = [](const Items &all) {
+        std::size_t count = 0;
+        for (const std::uint32_t item : all.item)
+            count += item == fault;
+        return count;
+    };
+    must(widestring::fault_count(units) == faults(items) && widestring::fault_count(wide) == faults(wide_items), "fault_count");
+    for (const auto policy : policies) {
+        must(widestring::to_utf32_lossy(units, policy) == lossy_of<std::u32string>(items, policy), "to_utf32_lossy of UTF-16");
+        must(widestring::to_utf16_lossy(wide, policy) == lossy_of<std::u16string>(wide_items, policy), "to_utf16_lossy of UTF-32");
+    }
+    std::string wtf8;
+    for (const std::uint32_t c : code_points_of(std::u16string_view(units), items))
+        put(wtf8, c);
+    must(widestring::to_wtf8(units) == wtf8 && widestring::wtf8_to_utf16(wtf8) == units, "WTF-8");
+    must(!widestring::wtf8_first_fault(wtf8) && widestring::wtf8_first_fault(wtf8 + '\xff') == wtf8.size(), "wtf8_first_fault");
+    for (const auto order : {widestring::Order::little, widestring::Order::big}) {
+        const bool is_big = order == widestring::Order::big;
+        std::string bytes, wide_bytes;
+        for (const char16_t unit : units)
+            put_bytes(bytes, unit, 2, is_big);
+        for (const char32_t unit : wide)
+            put_bytes(wide_bytes, unit, 4, is_big);
+        must(widestring::to_bytes(units, order) == bytes && widestring::utf16_from_bytes(bytes, order) == units, "bytes of UTF-16");
+        must(widestring::to_bytes(wide, order) == wide_bytes && widestring::utf32_from_bytes(wide_bytes, order) == wide, "bytes of UTF-32");
+        must(!widestring::utf16_from_bytes(bytes + 'a', order), "half a unit");
+    }
+    must(widestring::to_bytes(widestring::swap_bytes(units), widestring::Order::big) == widestring::to_bytes(units, widestring::Order::little), "swap_bytes");
+    std::u16string repaired = units;
+    must(widestring::repair_in_place(repaired) == faults(items) && repaired == widestring::repair(units), "repair_in_place");
+    const std::size_t offset = below(static_cast<std::uint32_t>(units.size()) + 2);
+    std::size_t floor = 0;
+    for (std::size_t at = 0; at <= items.offset.size(); at++) {
+        const std::size_t start = at < items.offset.size() ? items.offset[at] : units.size();
+        floor = start <= offset ? start : floor;
+    }
+    must(widestring::floor_char_boundary(units, offset) == floor, "floor_char_boundary");
+    char buffer[8];
+    const std::size_t capacity = below(9);
+    const widestring::Part part = widestring::to_utf8_part(units, buffer, capacity);
+    const auto read = std::u16string_view(units).substr(0, part.read);
+    must(widestring::to_utf8(read) == std::string(buffer, part.written) && part.written <= capacity, "to_utf8_part");
+    must(part.read == units.size() || widestring::first_fault(units) == part.read || part.written + 4 > capacity, "as much as fits");
+    bool is_ascii = true;
+    for (const char16_t unit : units)
+        is_ascii = is_ascii && unit < 0x80;
+    must(widestring::is_ascii(units) == is_ascii, "is_ascii");
+}
+
 } // namespace
 
 int main(int count, char **arguments) {
@@ -532,6 +643,8 @@ int main(int count, char **arguments) {
         check(random_text<std::u16string>());
         check(random_text<std::u32string>());
         check(random_text<std::wstring>());
+        check_pieces();
+        check_forms();
     }
     std::cout << "seed " << seed << ": every call agrees on " << texts << " texts of each kind\n";
 }

@@ -52,6 +52,22 @@ enum class Lossy : std::uint32_t { each = WIDE_EACH, run = WIDE_RUN, skip = WIDE
  */
 enum class Order : std::uint32_t { little = WIDE_LITTLE_ENDIAN, big = WIDE_BIG_ENDIAN };
 
+/*
+ * Encoding schemes: how a text is stored as bytes. `utf16` and `utf32` are read in the order of their BOM, or
+ * little-endian without one, and written little-endian. In the others a BOM is the character U+FEFF. WTF-8 is UTF-8 in
+ * which a surrogate that belongs to no pair has the three bytes of its code point.
+ */
+enum class Scheme : std::uint32_t {
+    utf8 = WIDE_UTF8,
+    utf16le = WIDE_UTF16LE,
+    utf16be = WIDE_UTF16BE,
+    utf16 = WIDE_UTF16,
+    utf32le = WIDE_UTF32LE,
+    utf32be = WIDE_UTF32BE,
+    utf32 = WIDE_UTF32,
+    wtf8 = WIDE_WTF8
+};
+
 /* Returns the WIDESTRING_VERSION_NUMBER of the library that the program runs with. */
 inline std::uint32_t version() noexcept {
     return wide_version();
@@ -419,6 +435,17 @@ template <class Put> std::optional<std::string> by_two_calls(Units<std::uint8_t>
     return std::optional<std::string>(std::move(text));
 }
 
+/*
+ * Converts a text whose result has this length. Returns std::nullopt if that is WIDE_FAULT.
+ */
+template <class String, class Unit, class Put> std::optional<String> of_length(Units<Unit> text, std::size_t length, Put put) {
+    if (length == WIDE_FAULT)
+        return std::nullopt;
+    String string;
+    overwrite(string, length, [&](auto *to) { return put(text.data, text.size, elements(to), length); });
+    return std::optional<String>(std::move(string));
+}
+
 } // namespace detail
 
 /*
@@ -645,15 +672,243 @@ inline std::wstring to_wstring_lossy(Utf8Units text, Lossy policy = Lossy::each)
 }
 
 /*
- * Converts any UTF-16 to UTF-32 as a string of wchar_t, and replaces ill-formed units by the policy. If there are any,
- * it converts by way of UTF-8.
+ * Converts any UTF-16 to UTF-32, or any UTF-32 to UTF-16, and replaces ill-formed units by the policy.
  */
-inline std::wstring to_wstring_lossy(Utf16Units units, Lossy policy = Lossy::each) {
-    if (policy == Lossy::each || policy == Lossy::run || policy == Lossy::skip)
-        if (auto wide = to_wstring(units))
-            return *std::move(wide);
-    return to_wstring(to_utf8_lossy(units, policy)).value();
+inline std::u32string to_utf32_lossy(Utf16Units units, Lossy policy = Lossy::each) {
+    return detail::lossy<std::u32string>(units, policy, wide_utf16_to_utf32, wide_utf16_to_utf32_lossy_with);
 }
+
+inline std::u16string to_utf16_lossy(Utf32Units units, Lossy policy = Lossy::each) {
+    return detail::lossy<std::u16string>(units, policy, wide_utf32_to_utf16, wide_utf32_to_utf16_lossy_with);
+}
+
+/* Converts any UTF-16 to UTF-32 as a string of wchar_t, and replaces ill-formed units by the policy. */
+inline std::wstring to_wstring_lossy(Utf16Units units, Lossy policy = Lossy::each) {
+    return detail::lossy<std::wstring>(units, policy, wide_utf16_to_utf32, wide_utf16_to_utf32_lossy_with);
+}
+
+/*
+ * Returns the offset of the first fault of WTF-8, or std::nullopt if there is none: an ill-formed sequence of UTF-8 that
+ * is no surrogate, or the second half of a surrogate pair whose halves are written apart.
+ */
+inline std::optional<std::size_t> wtf8_first_fault(Utf8Units text) noexcept {
+    return detail::unless(text.size, wide_wtf8_first_fault(text.data, text.size));
+}
+
+/* Converts any UTF-16 to WTF-8, which keeps each unit. */
+inline std::string to_wtf8(Utf16Units units) {
+    return detail::converted<std::string>(units, wide_utf16_to_wtf8).value();
+}
+
+/*
+ * Converts WTF-8 to the units of UTF-16 that it was made of, well formed or not. Returns std::nullopt if the bytes are
+ * not WTF-8.
+ */
+inline std::optional<std::u16string> wtf8_to_utf16(Utf8Units text) {
+    return detail::of_length<std::u16string>(text, wide_wtf8_utf16_length(text.data, text.size), wide_wtf8_to_utf16);
+}
+
+/* Returns the number of ill-formed sequences: units, or maximal subparts of UTF-8. */
+inline std::size_t fault_count(Utf8Units text) noexcept {
+    return wide_utf8_fault_count(text.data, text.size);
+}
+
+inline std::size_t fault_count(Utf16Units units) noexcept {
+    return wide_utf16_fault_count(units.data, units.size);
+}
+
+inline std::size_t fault_count(Utf32Units units) noexcept {
+    return wide_utf32_fault_count(units.data, units.size);
+}
+
+/* Returns whether all elements are ASCII. An empty text is. */
+inline bool is_ascii(Utf8Units text) noexcept {
+    return wide_utf8_is_ascii(text.data, text.size) != 0;
+}
+
+inline bool is_ascii(Utf16Units units) noexcept {
+    return wide_utf16_is_ascii(units.data, units.size) != 0;
+}
+
+inline bool is_ascii(Utf32Units units) noexcept {
+    return wide_utf32_is_ascii(units.data, units.size) != 0;
+}
+
+/*
+ * Returns the greatest offset that is at most `offset` and at most the length, and that does not split a surrogate pair.
+ */
+inline std::size_t floor_char_boundary(Utf16Units units, std::size_t offset) noexcept {
+    return wide_utf16_floor_char_boundary(units.data, units.size, offset);
+}
+
+/*
+ * Returns the units of UTF-16 or UTF-32 in bytes, of any values, or std::nullopt if part of a unit is left at the end.
+ */
+inline std::optional<std::u16string> utf16_from_bytes(Utf8Units bytes, Order order) {
+    const auto put = [number = static_cast<std::uint32_t>(order)](auto *from, std::size_t size, auto *to, std::size_t capacity) {
+        return wide_utf16_from_bytes(from, size, number, to, capacity);
+    };
+    return detail::of_length<std::u16string>(bytes, bytes.size % 2 == 0 ? bytes.size / 2 : WIDE_FAULT, put);
+}
+
+inline std::optional<std::u32string> utf32_from_bytes(Utf8Units bytes, Order order) {
+    const auto put = [number = static_cast<std::uint32_t>(order)](auto *from, std::size_t size, auto *to, std::size_t capacity) {
+        return wide_utf32_from_bytes(from, size, number, to, capacity);
+    };
+    return detail::of_length<std::u32string>(bytes, bytes.size % 4 == 0 ? bytes.size / 4 : WIDE_FAULT, put);
+}
+
+/* Returns the bytes of units in a byte order. The units may have any values. */
+inline std::string to_bytes(Utf16Units units, Order order) {
+    const auto put = [number = static_cast<std::uint32_t>(order)](auto *from, std::size_t size, auto *to, std::size_t capacity) {
+        return wide_utf16_to_bytes(from, size, number, to, capacity);
+    };
+    return detail::of_length<std::string>(units, 2 * units.size, put).value();
+}
+
+inline std::string to_bytes(Utf32Units units, Order order) {
+    const auto put = [number = static_cast<std::uint32_t>(order)](auto *from, std::size_t size, auto *to, std::size_t capacity) {
+        return wide_utf32_to_bytes(from, size, number, to, capacity);
+    };
+    return detail::of_length<std::string>(units, 4 * units.size, put).value();
+}
+
+/* Copies the units, and reverses the order of the bytes in each. */
+inline std::u16string swap_bytes(Utf16Units units) {
+    return detail::converted<std::u16string>(units, wide_utf16_swap_bytes).value();
+}
+
+inline std::u32string swap_bytes(CodeUnits<std::uint32_t, char32_t> units) {
+    return detail::converted<std::u32string>(units, wide_utf32_swap_bytes).value();
+}
+
+/* Replaces each ill-formed unit of a string by U+FFFD where it is, and returns how many were replaced. */
+inline std::size_t repair_in_place(std::u16string &units) noexcept {
+    return wide_utf16_repair_in_place(detail::elements(units.data()), units.size());
+}
+
+inline std::size_t repair_in_place(std::u32string &units) noexcept {
+    return wide_utf32_repair_in_place(detail::elements(units.data()), units.size());
+}
+
+inline std::size_t repair_in_place(std::wstring &units) noexcept {
+    return wide_utf32_repair_in_place(detail::elements(units.data()), units.size());
+}
+
+/* How many elements a call read and wrote. */
+struct Part {
+    std::size_t read, written;
+};
+
+/*
+ * Converts as many characters as fit into a buffer. It stops at the end of the text, at the first ill-formed sequence, or
+ * where the next character does not fit. A character has at most 4 bytes of UTF-8 or 2 units of UTF-16: if nothing was
+ * read though there is that much space, and the text is not empty, an ill-formed sequence is next.
+ */
+inline Part to_utf8_part(Utf16Units units, char *text, std::size_t capacity) noexcept {
+    std::size_t read = 0;
+    const std::size_t written = wide_utf16_to_utf8_part(units.data, units.size, detail::elements(text), capacity, &read);
+    return {read, written};
+}
+
+inline Part to_utf8_part(Utf32Units units, char *text, std::size_t capacity) noexcept {
+    std::size_t read = 0;
+    const std::size_t written = wide_utf32_to_utf8_part(units.data, units.size, detail::elements(text), capacity, &read);
+    return {read, written};
+}
+
+inline Part to_utf16_part(Utf8Units text, char16_t *units, std::size_t capacity) noexcept {
+    std::size_t read = 0;
+    const std::size_t written = wide_utf8_to_utf16_part(text.data, text.size, detail::elements(units), capacity, &read);
+    return {read, written};
+}
+
+inline Part to_utf16_part(Utf32Units text, char16_t *units, std::size_t capacity) noexcept {
+    std::size_t read = 0;
+    const std::size_t written = wide_utf32_to_utf16_part(text.data, text.size, detail::elements(units), capacity, &read);
+    return {read, written};
+}
+
+inline Part to_utf32_part(Utf8Units text, char32_t *units, std::size_t capacity) noexcept {
+    std::size_t read = 0;
+    const std::size_t written = wide_utf8_to_utf32_part(text.data, text.size, detail::elements(units), capacity, &read);
+    return {read, written};
+}
+
+inline Part to_utf32_part(Utf16Units text, char32_t *units, std::size_t capacity) noexcept {
+    std::size_t read = 0;
+    const std::size_t written = wide_utf16_to_utf32_part(text.data, text.size, detail::elements(units), capacity, &read);
+    return {read, written};
+}
+
+#ifdef __cpp_lib_span
+template <class Text> Part to_utf8_part(const Text &text, std::span<char> to) noexcept {
+    return to_utf8_part(text, to.data(), to.size());
+}
+
+template <class Text> Part to_utf16_part(const Text &text, std::span<char16_t> to) noexcept {
+    return to_utf16_part(text, to.data(), to.size());
+}
+
+template <class Text> Part to_utf32_part(const Text &text, std::span<char32_t> to) noexcept {
+    return to_utf32_part(text, to.data(), to.size());
+}
+#endif
+
+/*
+ * Converts a text from one encoding scheme to another, in pieces of any lengths. What it writes does not depend on them.
+ * It may be copied, and never allocates, except in `append`.
+ */
+class Converter {
+  public:
+    /*
+     * Begins a conversion. Under a policy ill-formed sequences are replaced; without one, a call stops at each. With
+     * `bom`, a BOM is written before the text. If a number is none of its enumeration, it throws std::bad_optional_access.
+     */
+    Converter(Scheme from, Scheme to, std::optional<Lossy> policy = std::nullopt, bool bom = false) {
+        const auto number = policy ? static_cast<std::uint32_t>(*policy) : WIDE_STRICT;
+        if (wide_convert_start(&state_, static_cast<std::uint32_t>(from), static_cast<std::uint32_t>(to), number, bom) == 0)
+            static_cast<void>(std::optional<int>().value());
+    }
+
+    /*
+     * Converts the next bytes, which are the last ones if `is_last` is true, into a buffer, and returns how many bytes
+     * were read and written. `state().end` says why it stopped, as widestring.h describes.
+     */
+    Part push(Utf8Units input, char *output, std::size_t capacity, bool is_last = false) noexcept {
+        const std::size_t written = wide_convert_push(&state_, input.data, input.size, is_last, detail::elements(output), capacity);
+        return {state_.read, written};
+    }
+
+#ifdef __cpp_lib_span
+    Part push(Utf8Units input, std::span<char> output, bool is_last = false) noexcept {
+        return push(input, output.data(), output.size(), is_last);
+    }
+#endif
+
+    /*
+     * Converts the next bytes, which are the last ones if `is_last` is true, and appends what is written. Returns how
+     * many bytes were read: all of them, or those up to the end of an ill-formed sequence, if there is no policy.
+     */
+    std::size_t append(Utf8Units input, std::string &output, bool is_last = false) {
+        char buffer[4096];
+        std::size_t read = 0;
+        do {
+            const Part part = push({input.data + read, input.size - read}, buffer, sizeof buffer, is_last);
+            output.append(buffer, part.written);
+            read += part.read;
+        } while (state_.end == WIDE_NO_SPACE);
+        return read;
+    }
+
+    /* Returns how far the conversion came, and why the last call stopped. */
+    const WideConverter &state() const noexcept {
+        return state_;
+    }
+
+  private:
+    WideConverter state_;
+};
 
 /*
  * Returns the byte order of the BOM at the start of UTF-16 in bytes, or std::nullopt if there is none. The two bytes of

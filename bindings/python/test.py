@@ -4,6 +4,7 @@ kind. The module must reject each LIBRARY."""
 import array
 import codecs
 import ctypes
+import itertools
 import mmap
 import os
 import random
@@ -12,7 +13,7 @@ import subprocess
 import sys
 
 import widestring
-from widestring import Lossy, Order
+from widestring import Converter, IncrementalDecoder, IncrementalEncoder, Lossy, Order, Scheme
 
 # The item of a fault in a text of this test: a surrogate, which no well-formed text has.
 FAULT = "\udfff"
@@ -430,12 +431,130 @@ def check_imports(libraries):
         equal(f"the import of {library}", (printed.split()[:1], "WIDESTRING_LIBRARY" in printed), (["ImportError"], True))
 
 
+# Python's codecs for the schemes, as they are written.
+CODECS = {
+    Scheme.UTF8: "utf-8", Scheme.UTF16LE: "utf-16-le", Scheme.UTF16BE: "utf-16-be", Scheme.UTF16: "utf-16-le",
+    Scheme.UTF32LE: "utf-32-le", Scheme.UTF32BE: "utf-32-be", Scheme.UTF32: "utf-32-le", Scheme.WTF8: "utf-8",
+}
+
+
+def random_text():
+    choices = ("a", "\n", "\xe9", "\u20ac", "\U0001f600", "\U0010ffff", "\0")
+    return "".join(random.choices(choices, k=random.randrange(12)))
+
+
+def random_pieces(data):
+    at = 0
+    while at < len(data):
+        end = at + random.randrange(5)
+        yield data[at:end]
+        at = end
+
+
+def converted(converter, data):
+    """Converts a text in random pieces, and an empty one at the end."""
+    return b"".join([converter.convert(piece) for piece in random_pieces(data)]) + converter.convert(b"", final=True)
+
+
+def check_schemes():
+    """Checks conversions of text between two random schemes in random pieces, and as str."""
+    source, target, text, bom = random.choice(list(Scheme)), random.choice(list(Scheme)), random_text(), random.random() < 0.5
+    data, wanted = text.encode(CODECS[source]), ("\ufeff" * bom + text).encode(CODECS[target])
+    policy = random.choice([None, *Lossy])
+    converter = Converter(source, target, policy, bom)
+    equal(f"{source!r} to {target!r}", converted(converter, data), wanted)
+    equal("what was converted", (converter.bytes, converter.items, converter.faults, converter.kept), (len(data), len(text), 0, 0))
+    decoder = IncrementalDecoder(source)
+    given = []
+    for piece in random_pieces(data):
+        given.append(decoder.decode(piece))
+        state = decoder.getstate()
+        decoder = IncrementalDecoder(source)
+        decoder.setstate(state)
+    equal("decoded", "".join(given) + decoder.decode(b"", final=True), text)
+    encoder = IncrementalEncoder(target, bom=bom)
+    equal("encoded", b"".join([encoder.encode(character) for character in text]) + encoder.encode("", final=True), wanted if text or bom else b"")
+
+
+def check_faults_in_pieces():
+    """Checks lossy and strict conversions of bytes of UTF-8 with faults in random pieces."""
+    data = random_data("utf-8", 1)
+    items = items_of(data, "utf-8")
+    for policy in Lossy:
+        converter = Converter(Scheme.UTF8, Scheme.UTF16BE, policy)
+        equal("lossy pieces", converted(converter, data), lossy_of(items, policy).encode("utf-16-be"))
+        equal("replaced", converter.faults, items.count(FAULT))
+    equal("utf8_fault_count", widestring.utf8_fault_count(data), items.count(FAULT))
+    try:
+        reported, _ = None, converted(Converter(Scheme.UTF8, Scheme.UTF8), data)
+    except widestring.Fault as fault:
+        reported = fault.offset
+    equal("the first fault", reported, widestring.utf8_first_fault(data))
+
+
+def check_units16(data):
+    """Checks the calls on units of UTF-16 that have no strict form."""
+    text = data.decode("utf-16-le", "surrogatepass")
+    wtf8 = text.encode("utf-8", "surrogatepass")
+    equal("utf16_to_wtf8", widestring.utf16_to_wtf8(data), wtf8)
+    equal("wtf8_to_utf16", widestring.wtf8_to_utf16(wtf8), data)
+    equal("wtf8_first_fault", widestring.wtf8_first_fault(wtf8 + b"\xff"), len(wtf8))
+    faults = sum("\ud800" <= character <= "\udfff" for character in text)
+    equal("utf16_fault_count", widestring.utf16_fault_count(data), faults)
+    equal("utf16_is_ascii", widestring.utf16_is_ascii(data), text.isascii())
+    swapped = array.array("H", data)
+    swapped.byteswap()
+    equal("utf16_swap_bytes", widestring.utf16_swap_bytes(data), swapped.tobytes())
+    for order, raw in ((Order.LITTLE, data), (Order.BIG, swapped.tobytes())):
+        equal("utf16_to_bytes", widestring.utf16_to_bytes(data, order), raw)
+        equal("utf16_from_bytes", widestring.utf16_from_bytes(raw, order), data)
+    for policy in Lossy:
+        equal("utf16_to_utf32_lossy", widestring.utf16_to_utf32_lossy(data, policy), lossy_of(text, policy).encode("utf-32-le"))
+    repaired = bytearray(data)
+    equal("utf16_repair_in_place", (widestring.utf16_repair_in_place(repaired), repaired), (faults, bytearray(widestring.utf16_repair(data))))
+    offset = random.randrange(len(data) // 2 + 3)
+    floor = widestring.utf16_floor_char_boundary(data, offset)
+    starts = {0, *(len(text[:end].encode("utf-16-le", "surrogatepass")) // 2 for end in range(len(text) + 1))}
+    equal("utf16_floor_char_boundary", floor, max(start for start in starts if start <= offset))
+
+
+def check_units32(data):
+    """Checks the calls on units of UTF-32 that have no strict form."""
+    items = items_of(data, "utf-32-le")
+    faults = sum("\ud800" <= item <= "\udfff" for item in items)
+    equal("utf32_fault_count", widestring.utf32_fault_count(data), faults)
+    equal("utf32_is_ascii", widestring.utf32_is_ascii(data), items.isascii())
+    for policy in Lossy:
+        equal("utf32_to_utf16_lossy", widestring.utf32_to_utf16_lossy(data, policy), lossy_of(items, policy).encode("utf-16-le"))
+    swapped = array.array("I", data)
+    swapped.byteswap()
+    equal("utf32_swap_bytes", widestring.utf32_swap_bytes(data), swapped.tobytes())
+    for order, raw in ((Order.LITTLE, data), (Order.BIG, swapped.tobytes())):
+        equal("utf32_to_bytes", widestring.utf32_to_bytes(data, order), raw)
+        equal("utf32_from_bytes", widestring.utf32_from_bytes(raw, order), data)
+    repaired = array.array("I", data)
+    equal("utf32_repair_in_place", (widestring.utf32_repair_in_place(repaired), repaired.tobytes()), (faults, widestring.utf32_repair(data)))
+
+
+def check_long_pieces():
+    """Checks pieces that are longer than what the module converts at once, in little time for each byte."""
+    text = "a\xe9\u20ac\U0001f600" * 40000
+    for source, target in itertools.product(Scheme, Scheme):
+        equal(f"long, {source!r} to {target!r}", Converter(source, target).convert(text.encode(CODECS[source]), final=True), text.encode(CODECS[target]))
+    must_raise(widestring.Fault, Converter(Scheme.UTF16LE, Scheme.UTF8).convert, b"a\0b", True)
+    must_raise(ValueError, Converter, 8, 0)
+    must_raise(ValueError, Converter, 0, 0, 3)
+    must_raise(ValueError, IncrementalDecoder, Scheme.UTF8, "backslashreplace")
+    must_raise(TypeError, widestring.utf16_repair_in_place, b"ab")
+    must_raise(ValueError, widestring.utf16_from_bytes, b"abc", Order.BIG)
+
+
 def main(arguments):
     count = int(arguments[0]) if arguments else 100000
     seed = int(arguments[1]) if arguments[1:] else 1
     random.seed(seed)
     equal("version", widestring.version(), (0, 1, 0))
-    checks = (check_rejected_arguments, check_lying_lengths, check_own_buffers, check_buffers, check_other_elements, check_numpy, check_memory)
+    checks = (check_rejected_arguments, check_lying_lengths, check_own_buffers, check_buffers, check_other_elements, check_numpy, check_memory, check_long_pieces)
     for check in checks:
         check()
     check_imports(arguments[2:])
@@ -445,6 +564,10 @@ def main(arguments):
         check_utf8(random_data("utf-8", 1))
         check_utf16(random_data("utf-16-le", 2))
         check_utf32(random_data("utf-32-le", 4))
+        check_units16(random_data("utf-16-le", 2))
+        check_units32(random_data("utf-32-le", 4))
+        check_schemes()
+        check_faults_in_pieces()
     print(f"seed {seed}: every call agrees on {count} texts of each kind")
 
 

@@ -26,6 +26,7 @@ raised if there is none, or if it has another version. The module requires CPyth
 bytes objects that are not filled first.
 """
 
+import codecs
 import ctypes
 import ctypes.util
 import enum
@@ -48,6 +49,13 @@ _UNITS = {1: (), 2: ("H",), 4: ("I", "L", "u", "w")}
 _OWN_ORDER = ("@", "=", "<")
 # The types of texts and buffers, which are bytes objects, of lengths and offsets, and of units and other numbers.
 _TEXT, _SIZE, _U16, _U32, _I32 = ctypes.c_char_p, ctypes.c_size_t, ctypes.c_uint16, ctypes.c_uint32, ctypes.c_int32
+# The type of a converter's address.
+_ADDRESS = ctypes.c_void_p
+# The policy of a converter that stops at each fault, and why it stopped.
+_STRICT, _NEEDS_INPUT, _AT_FAULT = 3, 0, 2
+# How many bytes a converter is given in each call, and the length of the space that is enough for their text.
+_PIECE = 16384
+_SPACE = 4 * _PIECE + 128
 # What each function returns, and what it takes.
 # Made by bindings/tables:
 _SIGNATURES = {
@@ -55,8 +63,15 @@ _SIGNATURES = {
     "utf16_first_fault": (_SIZE, _TEXT, _SIZE),
     "utf32_first_fault": (_SIZE, _TEXT, _SIZE),
     "utf8_first_fault": (_SIZE, _TEXT, _SIZE),
+    "wtf8_first_fault": (_SIZE, _TEXT, _SIZE),
     "utf16_first_fault_item": (_SIZE, _TEXT, _SIZE),
     "utf32_first_fault_item": (_SIZE, _TEXT, _SIZE),
+    "utf16_fault_count": (_SIZE, _TEXT, _SIZE),
+    "utf32_fault_count": (_SIZE, _TEXT, _SIZE),
+    "utf8_fault_count": (_SIZE, _TEXT, _SIZE),
+    "utf16_is_ascii": (_U32, _TEXT, _SIZE),
+    "utf32_is_ascii": (_U32, _TEXT, _SIZE),
+    "utf8_is_ascii": (_U32, _TEXT, _SIZE),
     "utf16_char_count": (_SIZE, _TEXT, _SIZE),
     "utf32_char_count": (_SIZE, _TEXT, _SIZE),
     "utf8_char_count": (_SIZE, _TEXT, _SIZE),
@@ -66,6 +81,9 @@ _SIGNATURES = {
     "utf8_utf32_length": (_SIZE, _TEXT, _SIZE),
     "utf16_utf32_length": (_SIZE, _TEXT, _SIZE),
     "utf32_utf16_length": (_SIZE, _TEXT, _SIZE),
+    "utf16_wtf8_length": (_SIZE, _TEXT, _SIZE),
+    "wtf8_utf16_length": (_SIZE, _TEXT, _SIZE),
+    "utf16_floor_char_boundary": (_SIZE, _TEXT, _SIZE, _SIZE),
     "utf16_first_nul": (_SIZE, _TEXT, _SIZE),
     "utf32_first_nul": (_SIZE, _TEXT, _SIZE),
     "utf16_find_unit": (_SIZE, _TEXT, _SIZE, _U16),
@@ -94,6 +112,10 @@ _SIGNATURES = {
     "utf8_to_utf32": (_SIZE, _TEXT, _SIZE, _TEXT, _SIZE),
     "utf16_to_utf32": (_SIZE, _TEXT, _SIZE, _TEXT, _SIZE),
     "utf32_to_utf16": (_SIZE, _TEXT, _SIZE, _TEXT, _SIZE),
+    "utf16_to_utf32_lossy_with": (_SIZE, _TEXT, _SIZE, _U32, _TEXT, _SIZE),
+    "utf32_to_utf16_lossy_with": (_SIZE, _TEXT, _SIZE, _U32, _TEXT, _SIZE),
+    "utf16_to_wtf8": (_SIZE, _TEXT, _SIZE, _TEXT, _SIZE),
+    "wtf8_to_utf16": (_SIZE, _TEXT, _SIZE, _TEXT, _SIZE),
     "utf8_to_utf16_lossy_with": (_SIZE, _TEXT, _SIZE, _U32, _TEXT, _SIZE),
     "utf8_to_utf32_lossy_with": (_SIZE, _TEXT, _SIZE, _U32, _TEXT, _SIZE),
     "utf16_repair": (_SIZE, _TEXT, _SIZE, _TEXT, _SIZE),
@@ -102,6 +124,16 @@ _SIGNATURES = {
     "utf32_to_ascii_lowercase": (_SIZE, _TEXT, _SIZE, _TEXT, _SIZE),
     "utf16_to_ascii_uppercase": (_SIZE, _TEXT, _SIZE, _TEXT, _SIZE),
     "utf32_to_ascii_uppercase": (_SIZE, _TEXT, _SIZE, _TEXT, _SIZE),
+    "utf16_from_bytes": (_SIZE, _TEXT, _SIZE, _U32, _TEXT, _SIZE),
+    "utf32_from_bytes": (_SIZE, _TEXT, _SIZE, _U32, _TEXT, _SIZE),
+    "utf16_to_bytes": (_SIZE, _TEXT, _SIZE, _U32, _TEXT, _SIZE),
+    "utf32_to_bytes": (_SIZE, _TEXT, _SIZE, _U32, _TEXT, _SIZE),
+    "utf16_swap_bytes": (_SIZE, _TEXT, _SIZE, _TEXT, _SIZE),
+    "utf32_swap_bytes": (_SIZE, _TEXT, _SIZE, _TEXT, _SIZE),
+    "utf16_repair_in_place": (_SIZE, _TEXT, _SIZE),
+    "utf32_repair_in_place": (_SIZE, _TEXT, _SIZE),
+    "convert_start": (_U32, _ADDRESS, _U32, _U32, _U32, _U32),
+    "convert_push": (_SIZE, _ADDRESS, _TEXT, _SIZE, _U32, _TEXT, _SIZE),
 }
 # End of what bindings/tables makes.
 
@@ -145,6 +177,37 @@ class Lossy(enum.IntEnum):
     RUN = 1
     # Writes nothing for ill-formed sequences.
     SKIP = 2
+    # End of what bindings/tables makes.
+
+
+class Scheme(enum.IntEnum):
+    r"""Names an encoding scheme: how a text is stored as bytes.
+
+    UTF16 and UTF32 are read in the order of their byte order mark (BOM), which is dropped, or little-endian without
+    one, and written little-endian. In the others a BOM is the character U+FEFF. WTF-8 is UTF-8 in which a surrogate
+    that belongs to no pair has the three bytes of its code point, as Python writes it with `surrogatepass`.
+
+    >>> Converter(Scheme.UTF16, Scheme.UTF8).convert(b"\xfe\xff\x00H\x00i", final=True)
+    b'Hi'
+    """
+
+    # Made by bindings/tables of WideScheme:
+    # UTF-8.
+    UTF8 = 0
+    # UTF-16, little-endian.
+    UTF16LE = 1
+    # UTF-16, big-endian.
+    UTF16BE = 2
+    # UTF-16, with or without a BOM.
+    UTF16 = 3
+    # UTF-32, little-endian.
+    UTF32LE = 4
+    # UTF-32, big-endian.
+    UTF32BE = 5
+    # UTF-32, with or without a BOM.
+    UTF32 = 6
+    # WTF-8.
+    WTF8 = 7
     # End of what bindings/tables makes.
 
 
@@ -359,6 +422,28 @@ _utf16_to_ascii_lowercase = _Conversion("utf16_to_ascii_lowercase", 2, 2)
 _utf32_to_ascii_lowercase = _Conversion("utf32_to_ascii_lowercase", 4, 4)
 _utf16_to_ascii_uppercase = _Conversion("utf16_to_ascii_uppercase", 2, 2)
 _utf32_to_ascii_uppercase = _Conversion("utf32_to_ascii_uppercase", 4, 4)
+_wtf8_first_fault = _call("wtf8_first_fault")
+_fault_count8 = _call("utf8_fault_count")
+_fault_count16 = _call("utf16_fault_count")
+_fault_count32 = _call("utf32_fault_count")
+_is_ascii8 = _call("utf8_is_ascii")
+_is_ascii16 = _call("utf16_is_ascii")
+_is_ascii32 = _call("utf32_is_ascii")
+_floor_char_boundary16 = _call("utf16_floor_char_boundary")
+_utf16_to_utf32_lossy = _Conversion("utf16_to_utf32_lossy_with", 2, 4, "utf16_utf32_length")
+_utf32_to_utf16_lossy = _Conversion("utf32_to_utf16_lossy_with", 4, 2, "utf32_utf16_length")
+_utf16_to_wtf8 = _Conversion("utf16_to_wtf8", 2, 1, "utf16_wtf8_length")
+_wtf8_to_utf16 = _Conversion("wtf8_to_utf16", 1, 2, "wtf8_utf16_length")
+_utf16_from_bytes = _Conversion("utf16_from_bytes", 1, 2)
+_utf32_from_bytes = _Conversion("utf32_from_bytes", 1, 4)
+_utf16_to_bytes = _Conversion("utf16_to_bytes", 2, 1)
+_utf32_to_bytes = _Conversion("utf32_to_bytes", 4, 1)
+_utf16_swap_bytes = _Conversion("utf16_swap_bytes", 2, 2)
+_utf32_swap_bytes = _Conversion("utf32_swap_bytes", 4, 4)
+_repair_in_place16 = _call("utf16_repair_in_place")
+_repair_in_place32 = _call("utf32_repair_in_place")
+_convert_start = _call("convert_start")
+_convert_push = _call("convert_push")
 _utf16_bytes_order = _call("utf16_bytes_order")
 _utf16_bytes_complete = _call("utf16_bytes_complete")
 _utf16_bytes_first_fault = _call("utf16_bytes_first_fault")
@@ -1005,3 +1090,458 @@ def utf16_bytes_to_utf8_lossy(data, order, policy=Lossy.EACH, after_fault=False)
     'H'
     """
     return _utf16_bytes_to_utf8_lossy.lossy(data, Order(order), Lossy(policy), bool(after_fault))
+
+
+def utf8_fault_count(text):
+    r"""Returns the number of ill-formed sequences: maximal subparts, as utf8_to_utf16_lossy replaces them.
+
+    Raises:
+        TypeError: `text` is neither bytes nor a buffer of bytes.
+
+    >>> utf8_fault_count(b"H\xf0\x9f\xff")
+    2
+    """
+    return _fault_count8(*_elements(text, 1))
+
+
+def utf16_fault_count(units):
+    r"""Returns the number of ill-formed units.
+
+    Raises:
+        TypeError: `units` is neither bytes nor a buffer of bytes or of units of 16 bits.
+        ValueError: an incomplete unit is at the end.
+
+    >>> utf16_fault_count(b"H\x00\x00\xdc\x00\xdc")
+    2
+    """
+    return _fault_count16(*_elements(units, 2))
+
+
+def utf32_fault_count(units):
+    """Returns the number of units that are not scalar values.
+
+    Raises:
+        TypeError: `units` is neither bytes nor a buffer of bytes or of units of 32 bits.
+        ValueError: an incomplete unit is at the end.
+    """
+    return _fault_count32(*_elements(units, 4))
+
+
+def utf8_is_ascii(text):
+    """Returns whether all bytes are ASCII. An empty text is.
+
+    Raises:
+        TypeError: `text` is neither bytes nor a buffer of bytes.
+
+    >>> utf8_is_ascii(b"Hi"), utf8_is_ascii("é".encode())
+    (True, False)
+    """
+    return _is_ascii8(*_elements(text, 1)) != 0
+
+
+def utf16_is_ascii(units):
+    """Returns whether all units are ASCII. An empty text is.
+
+    Raises:
+        TypeError: `units` is neither bytes nor a buffer of bytes or of units of 16 bits.
+        ValueError: an incomplete unit is at the end.
+
+    >>> utf16_is_ascii("Hi".encode("utf-16-le"))
+    True
+    """
+    return _is_ascii16(*_elements(units, 2)) != 0
+
+
+def utf32_is_ascii(units):
+    """Returns whether all units are ASCII. An empty text is.
+
+    Raises:
+        TypeError: `units` is neither bytes nor a buffer of bytes or of units of 32 bits.
+        ValueError: an incomplete unit is at the end.
+    """
+    return _is_ascii32(*_elements(units, 4)) != 0
+
+
+def utf16_floor_char_boundary(units, offset):
+    r"""Returns the greatest offset, in units, that is at most `offset` and at most the length, and that does not split
+    a surrogate pair.
+
+    Raises:
+        TypeError: `units` is neither bytes nor a buffer of bytes or of units of 16 bits, or `offset` is not an integer.
+        ValueError: an incomplete unit is at the end, or `offset` is negative.
+
+    >>> utf16_floor_char_boundary("H😀".encode("utf-16-le"), 2)
+    1
+    """
+    data, length = _elements(units, 2)
+    offset = operator.index(offset)
+    if offset < 0:
+        raise ValueError("a negative offset")
+    return _floor_char_boundary16(data, length, min(offset, length))
+
+
+def utf16_to_utf32_lossy(units, policy=Lossy.EACH):
+    r"""Converts any UTF-16 to UTF-32, and replaces ill-formed units by the policy.
+
+    Raises:
+        TypeError: `units` is neither bytes nor a buffer of bytes or of units of 16 bits.
+        ValueError: an incomplete unit is at the end, or `policy` is none of Lossy.
+
+    >>> utf16_to_utf32_lossy(b"H\x00\x00\xdc").decode("utf-32-le")
+    'H�'
+    """
+    return _utf16_to_utf32_lossy.lossy(units, Lossy(policy))
+
+
+def utf32_to_utf16_lossy(units, policy=Lossy.EACH):
+    """Converts any UTF-32 to UTF-16, and replaces units that are not scalar values by the policy.
+
+    Raises:
+        TypeError: `units` is neither bytes nor a buffer of bytes or of units of 32 bits.
+        ValueError: an incomplete unit is at the end, or `policy` is none of Lossy.
+
+    >>> import array
+    >>> utf32_to_utf16_lossy(array.array("I", [0x48, 0x110000])).decode("utf-16-le")
+    'H�'
+    """
+    return _utf32_to_utf16_lossy.lossy(units, Lossy(policy))
+
+
+def wtf8_first_fault(text):
+    r"""Returns the offset, in bytes, of the first fault of WTF-8, or None if there is none: an ill-formed sequence of
+    UTF-8 that is no surrogate, or the second half of a surrogate pair whose halves are written apart.
+
+    Raises:
+        TypeError: `text` is neither bytes nor a buffer of bytes.
+
+    >>> wtf8_first_fault(b"\xed\xa0\x80") is None
+    True
+    >>> wtf8_first_fault(b"H\xff")
+    1
+    """
+    return _offset(_wtf8_first_fault, text, 1)
+
+
+def utf16_to_wtf8(units):
+    r"""Converts any UTF-16 to WTF-8, which keeps each unit.
+
+    Raises:
+        TypeError: `units` is neither bytes nor a buffer of bytes or of units of 16 bits.
+        ValueError: an incomplete unit is at the end.
+
+    >>> utf16_to_wtf8(b"H\x00\x00\xd8")
+    b'H\xed\xa0\x80'
+    """
+    return _utf16_to_wtf8.lossy(units)
+
+
+def wtf8_to_utf16(text):
+    r"""Converts WTF-8 to the units of UTF-16 that it was made of, well formed or not.
+
+    Raises:
+        Fault: the text is not WTF-8. Its `offset` is that of the first fault, in bytes.
+        TypeError: `text` is neither bytes nor a buffer of bytes.
+
+    >>> wtf8_to_utf16(b"H\xed\xa0\x80")
+    b'H\x00\x00\xd8'
+    """
+    return _wtf8_to_utf16.strict(text, _wtf8_first_fault)
+
+
+def _from_bytes(conversion, data, order):
+    data, length = _elements(data, 1)
+    if length % conversion.result_width:
+        raise ValueError("an incomplete unit is at the end")
+    return conversion.write(data, length, length // conversion.result_width, Order(order))
+
+
+def _to_bytes(conversion, units, order):
+    data, length = _elements(units, conversion.width)
+    return conversion.write(data, length, length * conversion.width, Order(order))
+
+
+def utf16_from_bytes(data, order):
+    r"""Returns the units of UTF-16 in this byte order, well formed or not, in the order of the machine.
+
+    Raises:
+        TypeError: `data` is neither bytes nor a buffer of bytes.
+        ValueError: an incomplete unit is at the end, or `order` is none of Order.
+
+    >>> utf16_from_bytes(b"\x00H\xdc\x00", Order.BIG)
+    b'H\x00\x00\xdc'
+    """
+    return _from_bytes(_utf16_from_bytes, data, order)
+
+
+def utf32_from_bytes(data, order):
+    r"""Returns the units of UTF-32 in this byte order, of any value, in the order of the machine.
+
+    Raises:
+        TypeError: `data` is neither bytes nor a buffer of bytes.
+        ValueError: an incomplete unit is at the end, or `order` is none of Order.
+
+    >>> utf32_from_bytes(b"\x00\x00\x00H", Order.BIG)
+    b'H\x00\x00\x00'
+    """
+    return _from_bytes(_utf32_from_bytes, data, order)
+
+
+def utf16_to_bytes(units, order):
+    r"""Returns the bytes of units of UTF-16 in this byte order. The units may have any values.
+
+    Raises:
+        TypeError: `units` is neither bytes nor a buffer of bytes or of units of 16 bits.
+        ValueError: an incomplete unit is at the end, or `order` is none of Order.
+
+    >>> utf16_to_bytes(b"H\x00", Order.BIG)
+    b'\x00H'
+    """
+    return _to_bytes(_utf16_to_bytes, units, order)
+
+
+def utf32_to_bytes(units, order):
+    r"""Returns the bytes of units of UTF-32 in this byte order. The units may have any values.
+
+    Raises:
+        TypeError: `units` is neither bytes nor a buffer of bytes or of units of 32 bits.
+        ValueError: an incomplete unit is at the end, or `order` is none of Order.
+
+    >>> utf32_to_bytes(b"H\x00\x00\x00", Order.BIG)
+    b'\x00\x00\x00H'
+    """
+    return _to_bytes(_utf32_to_bytes, units, order)
+
+
+def utf16_swap_bytes(units):
+    r"""Copies UTF-16, and reverses the order of the bytes in each unit.
+
+    Raises:
+        TypeError: `units` is neither bytes nor a buffer of bytes or of units of 16 bits.
+        ValueError: an incomplete unit is at the end.
+
+    >>> utf16_swap_bytes(b"H\x00i\x00")
+    b'\x00H\x00i'
+    """
+    return _utf16_swap_bytes.lossy(units)
+
+
+def utf32_swap_bytes(units):
+    r"""Copies UTF-32, and reverses the order of the bytes in each unit.
+
+    Raises:
+        TypeError: `units` is neither bytes nor a buffer of bytes or of units of 32 bits.
+        ValueError: an incomplete unit is at the end.
+
+    >>> utf32_swap_bytes(b"H\x00\x00\x00")
+    b'\x00\x00\x00H'
+    """
+    return _utf32_swap_bytes.lossy(units)
+
+
+def _repair_in_place(call, buffer, width):
+    with memoryview(buffer) as view:
+        if view.readonly or not view.c_contiguous or not _is_read_as(width, view):
+            raise TypeError(f"a writable buffer of bytes or of units of {width} bytes, one after another, is required")
+        if view.nbytes % width:
+            raise ValueError("an incomplete unit is at the end")
+        if not view.nbytes:
+            return 0
+        space = (ctypes.c_char * view.nbytes).from_buffer(buffer)
+        return call(ctypes.cast(space, ctypes.c_char_p), view.nbytes // width)
+
+
+def utf16_repair_in_place(buffer):
+    r"""Replaces each ill-formed unit of UTF-16 by U+FFFD in a writable buffer, such as a bytearray, and returns how
+    many units were replaced.
+
+    Raises:
+        TypeError: `buffer` is no writable buffer of bytes or of units of 16 bits, one after another.
+        ValueError: an incomplete unit is at the end.
+
+    >>> units = bytearray(b"H\x00\x00\xdc")
+    >>> utf16_repair_in_place(units), units.decode("utf-16-le")
+    (1, 'H�')
+    """
+    return _repair_in_place(_repair_in_place16, buffer, 2)
+
+
+def utf32_repair_in_place(buffer):
+    """Replaces each unit of UTF-32 that is not a scalar value by U+FFFD in a writable buffer, such as an array, and
+    returns how many units were replaced.
+
+    Raises:
+        TypeError: `buffer` is no writable buffer of bytes or of units of 32 bits, one after another.
+        ValueError: an incomplete unit is at the end.
+
+    >>> import array
+    >>> units = array.array("I", [0x48, 0x110000])
+    >>> utf32_repair_in_place(units), units[1] == 0xFFFD
+    (1, True)
+    """
+    return _repair_in_place(_repair_in_place32, buffer, 4)
+
+
+class _State(ctypes.Structure):
+    """A converter as the library has it."""
+
+    _fields_ = [
+        *((name, _SIZE) for name in ("read", "kept")),
+        *((name, ctypes.c_uint64) for name in ("bytes", "items", "faults", "fault_offset", "fault_item")),
+        *((name, _U32) for name in ("fault_unit", "end", "from_", "to", "policy", "layout", "keeps", "after_high", "after_fault", "bom")),
+        ("bom_length", _SIZE),
+        ("unread", ctypes.c_uint8 * 4),
+    ]
+
+
+class Converter:
+    r"""Converts a text from one encoding scheme to another, in pieces of any lengths. What it writes does not depend on
+    them. Without a policy, ill-formed text is a Fault, whose `offset` counts the bytes of the whole text.
+
+    With `bom`, a byte order mark is written before the text.
+
+    Raises:
+        ValueError: `source` or `target` is none of Scheme, or `policy` none of Lossy.
+
+    >>> converter = Converter(Scheme.UTF16LE, Scheme.UTF8, Lossy.EACH)
+    >>> converter.convert(b"H\x00\x3d"), converter.convert(b"\xd8\x00\xde\x00\xdc", final=True).decode()
+    (b'H', '😀�')
+    >>> converter.items, converter.faults
+    (3, 1)
+    """
+
+    def __init__(self, source, target, policy=None, bom=False):
+        self._start = Scheme(source), Scheme(target), _STRICT if policy is None else Lossy(policy), bool(bom)
+        self.reset()
+
+    def reset(self):
+        """Begins a new text."""
+        self._state = _State()
+        if not _convert_start(ctypes.byref(self._state), *self._start):
+            raise SystemError("the library of widestring has other numbers of schemes")
+
+    def convert(self, data, final=False):
+        r"""Converts the next bytes of the text, which may end anywhere, and returns what is written for the characters
+        that they complete. With `final` these are the last ones.
+
+        Raises:
+            Fault: there is no policy, and the text is ill-formed, or the last bytes are part of a unit. What precedes
+                the fault in this piece is lost. After it, the next call goes on with the bytes given to it.
+            TypeError: `data` is neither bytes nor a buffer of bytes.
+
+        >>> Converter(Scheme.UTF8, Scheme.UTF32BE).convert(b"H")
+        b'\x00\x00\x00H'
+        """
+        data, length = _elements(data, 1)
+        texts = [self._push(data[at : at + _PIECE], bool(final) and at + _PIECE >= length) for at in range(0, max(length, 1), _PIECE)]
+        if final and self._state.kept and self._start[2] == _STRICT:
+            raise Fault(self._state.bytes)
+        return b"".join(texts)
+
+    def _push(self, piece, is_last):
+        """Converts a few bytes."""
+        state, texts = self._state, []
+        while True:
+            space = _buffer(_SPACE, 1)
+            written = _convert_push(ctypes.byref(state), piece, len(piece), is_last, space, _SPACE)
+            if written == _NONE:
+                raise SystemError("the library of widestring does not know its converter")
+            texts.append(space[:written])
+            if state.end == _AT_FAULT:
+                raise Fault(state.fault_offset)
+            if state.end == _NEEDS_INPUT:
+                return b"".join(texts)
+            piece = piece[state.read :]
+
+    @property
+    def bytes(self):
+        """How many bytes of the text were converted."""
+        return self._state.bytes
+
+    @property
+    def items(self):
+        """How many items, characters and faults, these bytes are. A BOM that is dropped is none."""
+        return self._state.items
+
+    @property
+    def faults(self):
+        """How many of the items are ill-formed sequences, which the policy replaced."""
+        return self._state.faults
+
+    @property
+    def kept(self):
+        """How many bytes were given that are no item so far, at most four."""
+        return self._state.kept
+
+
+# The policies that stand for the handlers of errors of Python's codecs.
+_HANDLERS = {"strict": None, "replace": Lossy.EACH, "ignore": Lossy.SKIP}
+
+
+def _policy_of(errors):
+    """Returns the policy that a handler of errors, or one of Lossy, stands for."""
+    if isinstance(errors, Lossy):
+        return errors
+    if errors not in _HANDLERS:
+        raise ValueError(f"errors are strict, replace, ignore or one of Lossy, not {errors!r}")
+    return _HANDLERS[errors]
+
+
+class IncrementalDecoder(codecs.IncrementalDecoder):
+    r"""Decodes bytes of an encoding scheme to `str`, in pieces, as the class of the same name in `codecs`.
+
+    `errors` is 'strict', which raises Fault, 'replace', 'ignore' or one of Lossy. From WTF-8, surrogates that belong to
+    no pair become those of `str`.
+
+    >>> decoder = IncrementalDecoder(Scheme.UTF16)
+    >>> decoder.decode(b"\xfe\xff\xd8\x3d"), decoder.decode(b"\xde\x00", final=True)
+    ('', '😀')
+    """
+
+    def __init__(self, scheme, errors="strict"):
+        super().__init__(errors)
+        self._is_wtf8 = Scheme(scheme) == Scheme.WTF8
+        self._converter = Converter(scheme, Scheme.WTF8 if self._is_wtf8 else Scheme.UTF8, _policy_of(errors))
+
+    def decode(self, input, final=False):
+        """Returns the characters that the next bytes complete."""
+        return self._converter.convert(input, final).decode("utf-8", "surrogatepass" if self._is_wtf8 else "strict")
+
+    def reset(self):
+        """Begins a new text."""
+        self._converter.reset()
+
+    def getstate(self):
+        """Returns the state, which setstate sets again: nothing that was read has to be given again."""
+        return b"", int.from_bytes(bytes(self._converter._state), sys.byteorder)
+
+    def setstate(self, state):
+        """Sets a state that getstate returned, or that of the beginning, which is (b"", 0)."""
+        if state[1] == 0:
+            self.reset()
+        else:
+            self._converter._state = _State.from_buffer_copy(state[1].to_bytes(ctypes.sizeof(_State), sys.byteorder))
+
+
+class IncrementalEncoder(codecs.IncrementalEncoder):
+    r"""Encodes `str` in an encoding scheme, in pieces, as the class of the same name in `codecs`. With `bom`, a byte
+    order mark is written before the text.
+
+    `errors` is 'strict', which raises Fault at a surrogate, 'replace', 'ignore' or one of Lossy. To UTF-16 and WTF-8
+    surrogates are kept.
+
+    >>> encoder = IncrementalEncoder(Scheme.UTF16BE, bom=True)
+    >>> encoder.encode("H"), encoder.encode("i", final=True)
+    (b'\xfe\xff\x00H', b'\x00i')
+    """
+
+    def __init__(self, scheme, errors="strict", bom=False):
+        super().__init__(errors)
+        self._converter = Converter(Scheme.WTF8, scheme, _policy_of(errors), bom)
+
+    def encode(self, input, final=False):
+        """Returns the bytes of the next characters."""
+        return self._converter.convert(input.encode("utf-8", "surrogatepass"), final)
+
+    def reset(self):
+        """Begins a new text."""
+        self._converter.reset()

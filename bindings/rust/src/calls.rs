@@ -2,7 +2,8 @@
 //! library, and they pass slices, or memory of a vector that they own.
 #![allow(unsafe_code)]
 
-use crate::{raw, Fault, IntoError, Lossy, Order, Short};
+use crate::raw::WideConverter;
+use crate::{raw, Fault, IntoError, Lossy, Order, Part, Scheme, Short};
 use alloc::string::String;
 use alloc::vec::Vec;
 use core::cmp;
@@ -91,6 +92,11 @@ impl<T> Query<T> {
         unless(items.len(), items.len(), self.result(items))
     }
 
+    /// Returns a number of elements.
+    pub fn number(&self, items: &[T]) -> usize {
+        within(items.len(), self.result(items))
+    }
+
     /// Returns a number of characters, or `None` if the function has none to report.
     pub fn count(&self, items: &[T]) -> Option<usize> {
         unless(NONE, items.len(), self.result(items))
@@ -105,8 +111,35 @@ pub const UTF32_FIRST_FAULT_ITEM: Query<u32> = Query(raw::wide_utf32_first_fault
 pub const UTF8_CHAR_COUNT: Query<u8> = Query(raw::wide_utf8_char_count);
 pub const UTF16_CHAR_COUNT: Query<u16> = Query(raw::wide_utf16_char_count);
 pub const UTF32_CHAR_COUNT: Query<u32> = Query(raw::wide_utf32_char_count);
+pub const WTF8_FIRST_FAULT: Query<u8> = Query(raw::wide_wtf8_first_fault);
+pub const UTF8_FAULT_COUNT: Query<u8> = Query(raw::wide_utf8_fault_count);
+pub const UTF16_FAULT_COUNT: Query<u16> = Query(raw::wide_utf16_fault_count);
+pub const UTF32_FAULT_COUNT: Query<u32> = Query(raw::wide_utf32_fault_count);
 pub const UTF16_FIRST_NUL: Query<u16> = Query(raw::wide_utf16_first_nul);
 pub const UTF32_FIRST_NUL: Query<u32> = Query(raw::wide_utf32_first_nul);
+
+/// A function that reads a slice and returns a flag.
+pub struct Test<T>(unsafe extern "C" fn(*const T, usize) -> u32);
+
+impl<T> Test<T> {
+    pub fn holds(&self, items: &[T]) -> bool {
+        check_version();
+        // SAFETY: a slice is memory of this length that may be read.
+        unsafe { (self.0)(items.as_ptr(), items.len()) != 0 }
+    }
+}
+
+pub const UTF8_IS_ASCII: Test<u8> = Test(raw::wide_utf8_is_ascii);
+pub const UTF16_IS_ASCII: Test<u16> = Test(raw::wide_utf16_is_ascii);
+pub const UTF32_IS_ASCII: Test<u32> = Test(raw::wide_utf32_is_ascii);
+
+pub fn utf16_floor_char_boundary(units: &[u16], offset: usize) -> usize {
+    check_version();
+    // SAFETY: a slice is memory of this length that may be read.
+    let result =
+        unsafe { raw::wide_utf16_floor_char_boundary(units.as_ptr(), units.len(), offset) };
+    within(units.len(), result)
+}
 
 /// A function that searches units for a unit.
 pub struct UnitSearch<T>(unsafe extern "C" fn(*const T, usize, T) -> usize);
@@ -350,6 +383,22 @@ pub const UTF32_TO_UTF16: Conversion<u32, u16> = Conversion {
     put: raw::wide_utf32_to_utf16,
 };
 
+pub const UTF16_TO_WTF8: Conversion<u16, u8> = Conversion {
+    most: 3,
+    length: raw::wide_utf16_wtf8_length,
+    first_fault: UTF16_FIRST_FAULT,
+    put: raw::wide_utf16_to_wtf8,
+};
+
+pub const WTF8_TO_UTF16: Conversion<u8, u16> = Conversion {
+    most: 1,
+    length: raw::wide_wtf8_utf16_length,
+    first_fault: WTF8_FIRST_FAULT,
+    put: raw::wide_wtf8_to_utf16,
+};
+
+pub const UTF16_TO_UTF32_LOSSILY: Lossily<u16, u32> = Lossily(raw::wide_utf16_to_utf32_lossy_with);
+pub const UTF32_TO_UTF16_LOSSILY: Lossily<u32, u16> = Lossily(raw::wide_utf32_to_utf16_lossy_with);
 pub const UTF16_TO_UTF8_LOSSILY: Lossily<u16, u8> = Lossily(raw::wide_utf16_to_utf8_lossy_with);
 pub const UTF32_TO_UTF8_LOSSILY: Lossily<u32, u8> = Lossily(raw::wide_utf32_to_utf8_lossy_with);
 pub const UTF8_TO_UTF16_LOSSILY: Lossily<u8, u16> = Lossily(raw::wide_utf8_to_utf16_lossy_with);
@@ -377,6 +426,115 @@ pub const UTF16_LOWERCASE: Copied<u16> = Copied(raw::wide_utf16_to_ascii_lowerca
 pub const UTF32_LOWERCASE: Copied<u32> = Copied(raw::wide_utf32_to_ascii_lowercase);
 pub const UTF16_UPPERCASE: Copied<u16> = Copied(raw::wide_utf16_to_ascii_uppercase);
 pub const UTF32_UPPERCASE: Copied<u32> = Copied(raw::wide_utf32_to_ascii_uppercase);
+pub const UTF16_SWAP_BYTES: Copied<u16> = Copied(raw::wide_utf16_swap_bytes);
+pub const UTF32_SWAP_BYTES: Copied<u32> = Copied(raw::wide_utf32_swap_bytes);
+
+/// A function that replaces units where they are, and returns how many.
+pub struct InPlace<T>(unsafe extern "C" fn(*mut T, usize) -> usize);
+
+impl<T> InPlace<T> {
+    pub fn of(&self, units: &mut [T]) -> usize {
+        check_version();
+        // SAFETY: a slice is memory of this length that may be read and written.
+        let result = unsafe { (self.0)(units.as_mut_ptr(), units.len()) };
+        within(units.len(), result)
+    }
+}
+
+pub const UTF16_REPAIR_IN_PLACE: InPlace<u16> = InPlace(raw::wide_utf16_repair_in_place);
+pub const UTF32_REPAIR_IN_PLACE: InPlace<u32> = InPlace(raw::wide_utf32_repair_in_place);
+
+/// A function that copies elements to elements of another width, in a byte order.
+pub struct Ordered<T, U>(unsafe extern "C" fn(*const T, usize, u32, *mut U, usize) -> usize);
+
+impl<T, U: Copy> Ordered<T, U> {
+    /// Returns the result, which has this many elements, or `None` if part of a unit is left.
+    pub fn of(&self, items: &[T], order: Order, len: usize) -> Option<Vec<U>> {
+        // SAFETY: the slice may be read, the vector owns its memory, and the library writes as many elements as it
+        // returns if the capacity suffices.
+        unsafe {
+            written(len, len, |to, capacity| {
+                (self.0)(items.as_ptr(), items.len(), order as u32, to, capacity)
+            })
+        }
+    }
+}
+
+pub const UTF16_FROM_BYTES: Ordered<u8, u16> = Ordered(raw::wide_utf16_from_bytes);
+pub const UTF32_FROM_BYTES: Ordered<u8, u32> = Ordered(raw::wide_utf32_from_bytes);
+pub const UTF16_TO_BYTES: Ordered<u16, u8> = Ordered(raw::wide_utf16_to_bytes);
+pub const UTF32_TO_BYTES: Ordered<u32, u8> = Ordered(raw::wide_utf32_to_bytes);
+
+/// A function that converts what fits.
+pub struct Partly<T, U>(unsafe extern "C" fn(*const T, usize, *mut U, usize, *mut usize) -> usize);
+
+impl<T, U> Partly<T, U> {
+    pub fn of(&self, items: &[T], buffer: &mut [U]) -> Part {
+        check_version();
+        let mut read = 0;
+        let (to, capacity) = (buffer.as_mut_ptr(), buffer.len());
+        // SAFETY: both slices are memory of these lengths, and what may be written does not overlap the rest.
+        let written = unsafe { (self.0)(items.as_ptr(), items.len(), to, capacity, &mut read) };
+        Part {
+            read: within(items.len(), read),
+            written: within(capacity, written),
+        }
+    }
+}
+
+pub const UTF16_TO_UTF8_PARTLY: Partly<u16, u8> = Partly(raw::wide_utf16_to_utf8_part);
+pub const UTF32_TO_UTF8_PARTLY: Partly<u32, u8> = Partly(raw::wide_utf32_to_utf8_part);
+pub const UTF16_TO_UTF32_PARTLY: Partly<u16, u32> = Partly(raw::wide_utf16_to_utf32_part);
+pub const UTF32_TO_UTF16_PARTLY: Partly<u32, u16> = Partly(raw::wide_utf32_to_utf16_part);
+pub const UTF8_TO_UTF16_PARTLY: Partly<u8, u16> = Partly(raw::wide_utf8_to_utf16_part);
+pub const UTF8_TO_UTF32_PARTLY: Partly<u8, u32> = Partly(raw::wide_utf8_to_utf32_part);
+
+/// The policy of a converter that stops at each fault.
+const STRICT: u32 = 3;
+
+pub fn convert_start(from: Scheme, to: Scheme, policy: Option<Lossy>, bom: bool) -> WideConverter {
+    check_version();
+    let mut converter = WideConverter::default();
+    let policy = policy.map_or(STRICT, |policy| policy as u32);
+    // SAFETY: the converter may be read and written.
+    let is_begun = unsafe {
+        raw::wide_convert_start(
+            &mut converter,
+            from as u32,
+            to as u32,
+            policy,
+            u32::from(bom),
+        )
+    };
+    assert!(is_begun != 0, "each scheme and policy has a number");
+    converter
+}
+
+pub fn convert_push(
+    converter: &mut WideConverter,
+    input: &[u8],
+    is_last: bool,
+    output: &mut [u8],
+) -> Part {
+    let (to, capacity) = (output.as_mut_ptr(), output.len());
+    let is_last = u32::from(is_last);
+    // SAFETY: the converter and the slices are memory of these lengths, and what may be written does not overlap the
+    // rest.
+    let written = unsafe {
+        raw::wide_convert_push(
+            converter,
+            input.as_ptr(),
+            input.len(),
+            is_last,
+            to,
+            capacity,
+        )
+    };
+    Part {
+        read: within(input.len(), converter.read),
+        written: within(capacity, written),
+    }
+}
 
 pub fn utf16_bytes_order(bytes: &[u8]) -> Option<Order> {
     check_version();

@@ -15,7 +15,12 @@ compile_error!(env!("WIDESTRING_MISSING"));
 extern crate alloc;
 
 mod calls;
+mod convert;
 mod raw;
+
+#[cfg(feature = "std")]
+pub use convert::{ConvertReader, ConvertWriter};
+pub use convert::{Converter, End, Progress, TextFault};
 
 use alloc::string::String;
 use alloc::vec::Vec;
@@ -148,6 +153,39 @@ pub enum Lossy {
     /// Writes nothing for ill-formed sequences.
     Skip = 2,
     // End of what bindings/tables makes.
+}
+
+/// Names an encoding scheme: how a text is stored as bytes.
+#[derive(Clone, Copy, Debug, PartialEq, Eq)]
+#[repr(u32)]
+pub enum Scheme {
+    // Made by bindings/tables of WideScheme:
+    /// UTF-8.
+    Utf8 = 0,
+    /// UTF-16, little-endian.
+    Utf16Le = 1,
+    /// UTF-16, big-endian.
+    Utf16Be = 2,
+    /// UTF-16, with or without a BOM.
+    Utf16 = 3,
+    /// UTF-32, little-endian.
+    Utf32Le = 4,
+    /// UTF-32, big-endian.
+    Utf32Be = 5,
+    /// UTF-32, with or without a BOM.
+    Utf32 = 6,
+    /// WTF-8.
+    Wtf8 = 7,
+    // End of what bindings/tables makes.
+}
+
+/// Says how many elements a call read and wrote.
+#[derive(Clone, Copy, Debug, PartialEq, Eq)]
+pub struct Part {
+    /// Counts the elements of the input that were read.
+    pub read: usize,
+    /// Counts the elements that were written.
+    pub written: usize,
 }
 
 /// Says which of the two bytes of a unit of UTF-16 comes first.
@@ -1125,4 +1163,362 @@ pub fn utf16_bytes_to_utf8_lossy(
     after_fault: bool,
 ) -> String {
     calls::utf16_bytes_to_utf8_lossy(bytes, order, policy, after_fault)
+}
+
+/// Returns the number of ill-formed sequences of UTF-8: maximal subparts.
+///
+/// # Panics
+///
+/// If the linked library is [not this crate's](crate#panics).
+///
+/// # Examples
+///
+/// ```
+/// use widestring_proved::utf8_fault_count;
+///
+/// assert_eq!(utf8_fault_count(b"H\xf0\x9f\xff"), 2);
+/// ```
+pub fn utf8_fault_count(text: &[u8]) -> usize {
+    calls::UTF8_FAULT_COUNT.number(text)
+}
+
+/// Returns the number of ill-formed units of UTF-16.
+///
+/// # Panics
+///
+/// If the linked library is [not this crate's](crate#panics).
+///
+/// # Examples
+///
+/// ```
+/// use widestring_proved::utf16_fault_count;
+///
+/// assert_eq!(utf16_fault_count(&[0x48, 0xdc00, 0xdc00]), 2);
+/// ```
+pub fn utf16_fault_count(units: &[u16]) -> usize {
+    calls::UTF16_FAULT_COUNT.number(units)
+}
+
+/// Returns the number of units of UTF-32 that are not scalar values.
+///
+/// # Panics
+///
+/// If the linked library is [not this crate's](crate#panics).
+pub fn utf32_fault_count(units: &[u32]) -> usize {
+    calls::UTF32_FAULT_COUNT.number(units)
+}
+
+/// Returns whether all bytes are ASCII. An empty text is.
+///
+/// # Panics
+///
+/// If the linked library is [not this crate's](crate#panics).
+pub fn utf8_is_ascii(text: &[u8]) -> bool {
+    calls::UTF8_IS_ASCII.holds(text)
+}
+
+/// Returns whether all units are ASCII. An empty text is.
+///
+/// # Panics
+///
+/// If the linked library is [not this crate's](crate#panics).
+///
+/// # Examples
+///
+/// ```
+/// use widestring_proved::utf16_is_ascii;
+///
+/// assert!(utf16_is_ascii(&[0x48, 0x69]));
+/// ```
+pub fn utf16_is_ascii(units: &[u16]) -> bool {
+    calls::UTF16_IS_ASCII.holds(units)
+}
+
+/// Returns whether all units are ASCII. An empty text is.
+///
+/// # Panics
+///
+/// If the linked library is [not this crate's](crate#panics).
+pub fn utf32_is_ascii(units: &[u32]) -> bool {
+    calls::UTF32_IS_ASCII.holds(units)
+}
+
+/// Returns the greatest offset, in units, that is at most `offset` and at most the length, and that does not split a
+/// surrogate pair of UTF-16.
+///
+/// # Panics
+///
+/// If the linked library is [not this crate's](crate#panics).
+///
+/// # Examples
+///
+/// ```
+/// use widestring_proved::utf16_floor_char_boundary;
+///
+/// assert_eq!(utf16_floor_char_boundary(&[0x48, 0xd83d, 0xde00], 2), 1);
+/// ```
+pub fn utf16_floor_char_boundary(units: &[u16], offset: usize) -> usize {
+    calls::utf16_floor_char_boundary(units, offset)
+}
+
+/// Converts any UTF-16 to UTF-32, and replaces ill-formed units by the policy.
+///
+/// # Panics
+///
+/// If the linked library is [not this crate's](crate#panics).
+///
+/// # Examples
+///
+/// ```
+/// use widestring_proved::{utf16_to_utf32_lossy, Lossy};
+///
+/// assert_eq!(utf16_to_utf32_lossy(&[0x48, 0xdc00], Lossy::Each), [0x48, 0xfffd]);
+/// ```
+pub fn utf16_to_utf32_lossy(units: &[u16], policy: Lossy) -> Vec<u32> {
+    calls::UTF16_TO_UTF32.lossy(units, policy, calls::UTF16_TO_UTF32_LOSSILY)
+}
+
+/// Converts any UTF-32 to UTF-16, and replaces units that are not scalar values by the policy.
+///
+/// # Panics
+///
+/// If the linked library is [not this crate's](crate#panics).
+pub fn utf32_to_utf16_lossy(units: &[u32], policy: Lossy) -> Vec<u16> {
+    calls::UTF32_TO_UTF16.lossy(units, policy, calls::UTF32_TO_UTF16_LOSSILY)
+}
+
+/// Returns the offset, in bytes, of the first fault of WTF-8, or `None` if there is none: an ill-formed sequence of UTF-8
+/// that is no surrogate, or the second half of a surrogate pair whose halves are written apart.
+///
+/// # Panics
+///
+/// If the linked library is [not this crate's](crate#panics).
+///
+/// # Examples
+///
+/// ```
+/// use widestring_proved::wtf8_first_fault;
+///
+/// assert_eq!(wtf8_first_fault(b"\xed\xa0\x80"), None);
+/// assert_eq!(wtf8_first_fault(b"H\xff"), Some(1));
+/// ```
+pub fn wtf8_first_fault(text: &[u8]) -> Option<usize> {
+    calls::WTF8_FIRST_FAULT.offset(text)
+}
+
+/// Converts any UTF-16 to WTF-8, which keeps each unit.
+///
+/// # Panics
+///
+/// If the linked library is [not this crate's](crate#panics).
+///
+/// # Examples
+///
+/// ```
+/// use widestring_proved::{utf16_to_wtf8, wtf8_to_utf16};
+///
+/// let units = [0x48, 0xd800];
+/// let text = utf16_to_wtf8(&units);
+/// assert_eq!(text, b"H\xed\xa0\x80");
+/// assert_eq!(wtf8_to_utf16(&text).unwrap(), units);
+/// ```
+pub fn utf16_to_wtf8(units: &[u16]) -> Vec<u8> {
+    let text = calls::UTF16_TO_WTF8.strict(units);
+    text.expect("WTF-8 has all units")
+}
+
+/// Converts WTF-8 to the units of UTF-16 that it was made of, well formed or not.
+///
+/// # Errors
+///
+/// The offset of the first fault, in bytes.
+///
+/// # Panics
+///
+/// If the linked library is [not this crate's](crate#panics).
+pub fn wtf8_to_utf16(text: &[u8]) -> Result<Vec<u16>, Fault> {
+    calls::WTF8_TO_UTF16.strict(text)
+}
+
+/// Returns the units of UTF-16 in bytes of this order, of any values, or `None` if part of a unit is left at the end.
+///
+/// # Panics
+///
+/// If the linked library is [not this crate's](crate#panics).
+///
+/// # Examples
+///
+/// ```
+/// use widestring_proved::{utf16_from_bytes, Order};
+///
+/// assert_eq!(utf16_from_bytes(b"\0H", Order::Big).unwrap(), [0x48]);
+/// assert_eq!(utf16_from_bytes(b"\0", Order::Big), None);
+/// ```
+pub fn utf16_from_bytes(bytes: &[u8], order: Order) -> Option<Vec<u16>> {
+    calls::UTF16_FROM_BYTES.of(bytes, order, bytes.len() / 2)
+}
+
+/// Returns the bytes of units of UTF-16 in this order. The units may have any values.
+///
+/// # Panics
+///
+/// If the linked library is [not this crate's](crate#panics).
+///
+/// # Examples
+///
+/// ```
+/// use widestring_proved::{utf16_to_bytes, Order};
+///
+/// assert_eq!(utf16_to_bytes(&[0x48], Order::Big), b"\0H");
+/// ```
+pub fn utf16_to_bytes(units: &[u16], order: Order) -> Vec<u8> {
+    let bytes = calls::UTF16_TO_BYTES.of(units, order, 2 * units.len());
+    bytes.expect("each order has a number")
+}
+
+/// Copies UTF-16, and reverses the order of the bytes in each unit.
+///
+/// # Panics
+///
+/// If the linked library is [not this crate's](crate#panics).
+pub fn utf16_swap_bytes(units: &[u16]) -> Vec<u16> {
+    calls::UTF16_SWAP_BYTES.of(units)
+}
+
+/// Replaces each ill-formed unit of UTF-16 by U+FFFD where it is, and returns how many were replaced.
+///
+/// # Panics
+///
+/// If the linked library is [not this crate's](crate#panics).
+///
+/// # Examples
+///
+/// ```
+/// use widestring_proved::utf16_repair_in_place;
+///
+/// let mut units = [0x48, 0xdc00];
+/// assert_eq!(utf16_repair_in_place(&mut units), 1);
+/// assert_eq!(units, [0x48, 0xfffd]);
+/// ```
+pub fn utf16_repair_in_place(units: &mut [u16]) -> usize {
+    calls::UTF16_REPAIR_IN_PLACE.of(units)
+}
+
+/// Returns the units of UTF-32 in bytes of this order, of any values, or `None` if part of a unit is left at the end.
+///
+/// # Panics
+///
+/// If the linked library is [not this crate's](crate#panics).
+pub fn utf32_from_bytes(bytes: &[u8], order: Order) -> Option<Vec<u32>> {
+    calls::UTF32_FROM_BYTES.of(bytes, order, bytes.len() / 4)
+}
+
+/// Returns the bytes of units of UTF-32 in this order. The units may have any values.
+///
+/// # Panics
+///
+/// If the linked library is [not this crate's](crate#panics).
+pub fn utf32_to_bytes(units: &[u32], order: Order) -> Vec<u8> {
+    let bytes = calls::UTF32_TO_BYTES.of(units, order, 4 * units.len());
+    bytes.expect("each order has a number")
+}
+
+/// Copies UTF-32, and reverses the order of the bytes in each unit.
+///
+/// # Panics
+///
+/// If the linked library is [not this crate's](crate#panics).
+pub fn utf32_swap_bytes(units: &[u32]) -> Vec<u32> {
+    calls::UTF32_SWAP_BYTES.of(units)
+}
+
+/// Replaces each unit that is not a scalar value of UTF-32 by U+FFFD where it is, and returns how many were replaced.
+///
+/// # Panics
+///
+/// If the linked library is [not this crate's](crate#panics).
+pub fn utf32_repair_in_place(units: &mut [u32]) -> usize {
+    calls::UTF32_REPAIR_IN_PLACE.of(units)
+}
+
+/// Converts as many characters of UTF-16 to UTF-8 as fit into a buffer. It stops at the end of the text, at the first
+/// ill-formed sequence, or where the next character does not fit. A character has at most 4 bytes of UTF-8 or 2 units of
+/// UTF-16: if nothing was read though there is that much space, and the text is not empty, an ill-formed sequence is
+/// next.
+///
+/// # Panics
+///
+/// If the linked library is [not this crate's](crate#panics).
+///
+/// # Examples
+///
+/// ```
+/// use widestring_proved::{utf16_to_utf8_part, Part};
+///
+/// let mut buffer = [0; 4];
+/// let part = utf16_to_utf8_part(&[0x20ac, 0x20ac], &mut buffer);
+/// assert_eq!(part, Part { read: 1, written: 3 });
+/// ```
+pub fn utf16_to_utf8_part(units: &[u16], buffer: &mut [u8]) -> Part {
+    calls::UTF16_TO_UTF8_PARTLY.of(units, buffer)
+}
+
+/// Converts as many characters of UTF-32 to UTF-8 as fit into a buffer. It stops at the end of the text, at the first
+/// ill-formed sequence, or where the next character does not fit. A character has at most 4 bytes of UTF-8 or 2 units of
+/// UTF-16: if nothing was read though there is that much space, and the text is not empty, an ill-formed sequence is
+/// next.
+///
+/// # Panics
+///
+/// If the linked library is [not this crate's](crate#panics).
+pub fn utf32_to_utf8_part(units: &[u32], buffer: &mut [u8]) -> Part {
+    calls::UTF32_TO_UTF8_PARTLY.of(units, buffer)
+}
+
+/// Converts as many characters of UTF-16 to UTF-32 as fit into a buffer. It stops at the end of the text, at the first
+/// ill-formed sequence, or where the next character does not fit. A character has at most 4 bytes of UTF-8 or 2 units of
+/// UTF-16: if nothing was read though there is that much space, and the text is not empty, an ill-formed sequence is
+/// next.
+///
+/// # Panics
+///
+/// If the linked library is [not this crate's](crate#panics).
+pub fn utf16_to_utf32_part(units: &[u16], buffer: &mut [u32]) -> Part {
+    calls::UTF16_TO_UTF32_PARTLY.of(units, buffer)
+}
+
+/// Converts as many characters of UTF-32 to UTF-16 as fit into a buffer. It stops at the end of the text, at the first
+/// ill-formed sequence, or where the next character does not fit. A character has at most 4 bytes of UTF-8 or 2 units of
+/// UTF-16: if nothing was read though there is that much space, and the text is not empty, an ill-formed sequence is
+/// next.
+///
+/// # Panics
+///
+/// If the linked library is [not this crate's](crate#panics).
+pub fn utf32_to_utf16_part(units: &[u32], buffer: &mut [u16]) -> Part {
+    calls::UTF32_TO_UTF16_PARTLY.of(units, buffer)
+}
+
+/// Converts as many characters of UTF-8 to UTF-16 as fit into a buffer. It stops at the end of the text, at the first
+/// ill-formed sequence, or where the next character does not fit. A character has at most 4 bytes of UTF-8 or 2 units of
+/// UTF-16: if nothing was read though there is that much space, and the text is not empty, an ill-formed sequence is
+/// next.
+///
+/// # Panics
+///
+/// If the linked library is [not this crate's](crate#panics).
+pub fn utf8_to_utf16_part(text: &[u8], buffer: &mut [u16]) -> Part {
+    calls::UTF8_TO_UTF16_PARTLY.of(text, buffer)
+}
+
+/// Converts as many characters of UTF-8 to UTF-32 as fit into a buffer. It stops at the end of the text, at the first
+/// ill-formed sequence, or where the next character does not fit. A character has at most 4 bytes of UTF-8 or 2 units of
+/// UTF-16: if nothing was read though there is that much space, and the text is not empty, an ill-formed sequence is
+/// next.
+///
+/// # Panics
+///
+/// If the linked library is [not this crate's](crate#panics).
+pub fn utf8_to_utf32_part(text: &[u8], buffer: &mut [u32]) -> Part {
+    calls::UTF8_TO_UTF32_PARTLY.of(text, buffer)
 }

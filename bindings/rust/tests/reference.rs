@@ -492,6 +492,230 @@ fn short_buffers() {
     assert_eq!(IntoError::from(fault).to_string(), fault.to_string());
 }
 
+const SCHEMES: [Scheme; 8] = [
+    Scheme::Utf8,
+    Scheme::Utf16Le,
+    Scheme::Utf16Be,
+    Scheme::Utf16,
+    Scheme::Utf32Le,
+    Scheme::Utf32Be,
+    Scheme::Utf32,
+    Scheme::Wtf8,
+];
+
+/// Returns a text in a scheme, of which UTF-16 and UTF-32 are little-endian.
+fn in_scheme(text: &str, scheme: Scheme) -> Vec<u8> {
+    match scheme {
+        Scheme::Utf8 | Scheme::Wtf8 => text.as_bytes().to_vec(),
+        Scheme::Utf16Be => text.encode_utf16().flat_map(u16::to_be_bytes).collect(),
+        Scheme::Utf16 | Scheme::Utf16Le => text.encode_utf16().flat_map(u16::to_le_bytes).collect(),
+        Scheme::Utf32Be => text
+            .chars()
+            .flat_map(|c| u32::from(c).to_be_bytes())
+            .collect(),
+        Scheme::Utf32 | Scheme::Utf32Le => text
+            .chars()
+            .flat_map(|c| u32::from(c).to_le_bytes())
+            .collect(),
+    }
+}
+
+/// Checks a conversion between two random schemes in random pieces, into little space.
+fn check_pieces(text: &str, numbers: &mut Numbers) {
+    let (from, to) = (
+        SCHEMES[numbers.below(8) as usize],
+        SCHEMES[numbers.below(8) as usize],
+    );
+    let bytes = in_scheme(text, from);
+    let wanted = in_scheme(text, to);
+    let mut converter = Converter::new(from, to, None, false);
+    let (mut written, mut at) = (Vec::new(), 0);
+    loop {
+        let mut buffer = [0; 24];
+        let end = (at + numbers.below(40) as usize).min(bytes.len());
+        let space = &mut buffer[..8 + numbers.below(17) as usize];
+        let progress = converter.push(&bytes[at..end], end == bytes.len(), space);
+        written.extend_from_slice(&space[..progress.written]);
+        at += progress.read;
+        if end == bytes.len() && progress.end == End::NeedsInput {
+            break;
+        }
+    }
+    assert_eq!(written, wanted);
+    assert_eq!(converter.items(), text.chars().count() as u64);
+    assert_eq!(
+        (converter.bytes(), converter.faults(), converter.kept()),
+        (bytes.len() as u64, 0, 0)
+    );
+}
+
+/// Checks the lossy text of bytes in pieces, and where the first fault is.
+fn check_faults_in_pieces(bytes: &[u8], numbers: &mut Numbers) {
+    let text = String::from_utf8_lossy(bytes);
+    let mut converter = Converter::new(Scheme::Utf8, Scheme::Utf8, Some(Lossy::Each), false);
+    let mut written = Vec::new();
+    for piece in bytes.chunks(1 + numbers.below(5) as usize) {
+        converter.convert(piece, &mut written, false).unwrap();
+    }
+    converter.convert(&[], &mut written, true).unwrap();
+    assert_eq!(written, text.as_bytes());
+    assert_eq!(converter.faults(), utf8_fault_count(bytes) as u64);
+    let mut strict = Converter::new(Scheme::Utf8, Scheme::Utf16Le, None, false);
+    let fault = strict.convert(bytes, &mut Vec::new(), true).err();
+    assert_eq!(
+        fault.map(|fault| fault.offset as usize),
+        utf8_first_fault(bytes)
+    );
+}
+
+/// Checks the calls on units of UTF-16 of any values that the others do not.
+fn check_units16(units: &[u16], numbers: &mut Numbers) {
+    let items: Vec<_> = char::decode_utf16(units.iter().copied()).collect();
+    let faults = items.iter().filter(|item| item.is_err()).count();
+    let (mut wtf8, mut wide) = (Vec::new(), Vec::new());
+    for item in &items {
+        match item {
+            Ok(c) => wtf8.extend_from_slice(c.to_string().as_bytes()),
+            Err(error) => {
+                let unit = error.unpaired_surrogate();
+                wtf8.extend([
+                    0xed,
+                    0x80 | (unit >> 6 & 0x3f) as u8,
+                    0x80 | (unit & 0x3f) as u8,
+                ]);
+            }
+        }
+        wide.push(item.as_ref().map_or(0xfffd, |c| u32::from(*c)));
+    }
+    assert_eq!(utf16_to_wtf8(units), wtf8);
+    assert_eq!(wtf8_to_utf16(&wtf8).as_deref(), Ok(units));
+    assert_eq!(wtf8_first_fault(&wtf8), None);
+    assert_eq!(utf16_fault_count(units), faults);
+    assert_eq!(utf16_to_utf32_lossy(units, Lossy::Each), wide);
+    assert_eq!(utf16_is_ascii(units), units.iter().all(|unit| *unit < 0x80));
+    let big: Vec<u8> = units.iter().flat_map(|unit| unit.to_be_bytes()).collect();
+    assert_eq!(utf16_to_bytes(units, Order::Big), big);
+    assert_eq!(utf16_from_bytes(&big, Order::Big).as_deref(), Some(units));
+    let swapped: Vec<u16> = units.iter().map(|unit| unit.swap_bytes()).collect();
+    assert_eq!(utf16_swap_bytes(units), swapped);
+    assert_eq!(utf16_from_bytes(&big, Order::Little), Some(swapped));
+    let mut repaired = units.to_vec();
+    assert_eq!(utf16_repair_in_place(&mut repaired), faults);
+    assert_eq!(repaired, utf16_repair(units));
+    let mut buffer = [0; 9];
+    let part = utf16_to_utf8_part(units, &mut buffer);
+    let text = String::from_utf16(&units[..part.read]).expect("what was read is text");
+    assert_eq!(&buffer[..part.written], text.as_bytes());
+    let is_fault = utf16_first_fault(units) == Some(part.read);
+    assert!(part.read == units.len() || is_fault || part.written + 4 > buffer.len());
+    let offset = numbers.below(units.len() as u32 + 2) as usize;
+    let cut = utf16_floor_char_boundary(units, offset);
+    assert!(cut <= offset && offset.min(units.len()) - cut <= 1);
+    let pairs = |units: &[u16]| {
+        char::decode_utf16(units.iter().copied())
+            .flatten()
+            .filter(|c| *c > '\u{ffff}')
+            .count()
+    };
+    assert_eq!(pairs(&units[..cut]) + pairs(&units[cut..]), pairs(units));
+}
+
+#[test]
+fn wide_units() {
+    let units = [0x41, 0x1_f600, 0xd800, 0x11_0000];
+    assert_eq!(utf32_fault_count(&units), 2);
+    assert!(utf32_is_ascii(&units[..1]) && !utf32_is_ascii(&units));
+    assert_eq!(
+        utf32_to_utf16_lossy(&units, Lossy::Run),
+        [0x41, 0xd83d, 0xde00, 0xfffd]
+    );
+    assert_eq!(utf32_to_bytes(&units[..1], Order::Big), [0, 0, 0, 0x41]);
+    assert_eq!(
+        utf32_from_bytes(&[0x41, 0, 0, 0], Order::Little),
+        Some(vec![0x41])
+    );
+    assert_eq!(utf32_from_bytes(&[0; 6], Order::Little), None);
+    assert_eq!(utf32_swap_bytes(&units[..1]), [0x4100_0000]);
+    let mut repaired = units;
+    assert_eq!(utf32_repair_in_place(&mut repaired), 2);
+    assert_eq!(repaired, [0x41, 0x1_f600, 0xfffd, 0xfffd]);
+    let mut buffer = [0; 4];
+    assert_eq!(
+        utf32_to_utf8_part(&units, &mut buffer),
+        Part {
+            read: 1,
+            written: 1
+        }
+    );
+    assert_eq!(
+        utf32_to_utf16_part(&units, &mut [0; 4]),
+        Part {
+            read: 2,
+            written: 3
+        }
+    );
+    assert_eq!(
+        utf8_to_utf16_part(b"ab\xff", &mut [0; 4]),
+        Part {
+            read: 2,
+            written: 2
+        }
+    );
+    assert_eq!(
+        utf8_to_utf32_part(b"abc", &mut [0; 2]),
+        Part {
+            read: 2,
+            written: 2
+        }
+    );
+    assert_eq!(
+        utf16_to_utf32_part(&[0xd83d, 0xde00], &mut [0; 1]),
+        Part {
+            read: 2,
+            written: 1
+        }
+    );
+    assert!(utf8_is_ascii(b"ab") && !utf8_is_ascii(b"\xff"));
+}
+
+#[cfg(feature = "std")]
+#[test]
+fn adapters() {
+    use std::io::{ErrorKind, Read, Write};
+
+    let text = "a\u{e9}\u{20ac}\u{1f600}".repeat(5000);
+    for from in SCHEMES {
+        for to in SCHEMES {
+            let (bytes, wanted) = (in_scheme(&text, from), in_scheme(&text, to));
+            let mut given = Vec::new();
+            let converter = Converter::new(from, to, None, false);
+            ConvertReader::new(&bytes[..], converter)
+                .read_to_end(&mut given)
+                .unwrap();
+            assert_eq!(given, wanted);
+            let mut writer = ConvertWriter::new(Vec::new(), converter);
+            writer.write_all(&bytes).unwrap();
+            assert_eq!(writer.finish().unwrap(), wanted);
+        }
+    }
+    let converter = Converter::new(Scheme::Utf16Le, Scheme::Utf8, None, false);
+    let mut given = Vec::new();
+    let mut reader = ConvertReader::new(&b"a\0\0\xd8b\0"[..], converter);
+    let error = reader.read_to_end(&mut given).unwrap_err();
+    assert_eq!(
+        (error.kind(), &given[..]),
+        (ErrorKind::InvalidData, &b"a"[..])
+    );
+    let mut reader = ConvertReader::new(&b"a\0b"[..], converter);
+    assert_eq!(
+        reader.read_to_end(&mut given).unwrap_err().kind(),
+        ErrorKind::InvalidData
+    );
+    let mut writer = ConvertWriter::new(Vec::new(), converter);
+    writer.write_all(b"a\0b").unwrap();
+    assert_eq!(writer.finish().unwrap_err().kind(), ErrorKind::InvalidData);
+}
+
 #[test]
 fn texts() {
     let mut numbers = Numbers::new();
@@ -500,6 +724,10 @@ fn texts() {
         check_utf8(&numbers.broken(text.clone().into_bytes(), |wild| wild as u8));
         let units = numbers.broken(utf16_of(&text), |wild| wild as u16);
         check_utf16(&units, &mut numbers);
+        check_units16(&units, &mut numbers);
+        check_pieces(&text, &mut numbers);
+        let bytes = numbers.broken(text.clone().into_bytes(), |wild| wild as u8);
+        check_faults_in_pieces(&bytes, &mut numbers);
         let wide = numbers.broken(utf32_of(&text), |wild| wild);
         check_utf32(&wide, &mut numbers);
     }
