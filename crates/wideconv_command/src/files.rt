@@ -13,6 +13,8 @@ type Written<F> = (F, Option<(String, String)>);
 
 // Creates a file beside this one, which has another name.
 fn create_part<R: Files + AllocGlobal>(rt: &R, path: &str) -> io::Result<Written<R::File>> {
+    // Nothing can fail between the creation of a file and its return, so that none is left.
+    let target = path.to_string(rt.alloc())?;
     for number in 0..NAMES {
         let part = format!(in rt.alloc(); "{path}.part{number}")?;
         match OpenOptions::new()
@@ -20,10 +22,7 @@ fn create_part<R: Files + AllocGlobal>(rt: &R, path: &str) -> io::Result<Written
             .create_new(true)
             .open(rt, part.as_str())
         {
-            Ok(file) => {
-                let path = path.to_string(rt.alloc())?;
-                return Ok((file, Some((part, path))));
-            }
+            Ok(file) => return Ok((file, Some((part, target)))),
             Err(error) if error.kind() == ErrorKind::AlreadyExists => {}
             Err(error) => return Err(error),
         }
