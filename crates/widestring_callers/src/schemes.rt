@@ -1,5 +1,5 @@
 //! Texts that are stored in other encoding schemes, and read back.
-ghost use Rattle.std.specs.Prelude.{◌≡◌, ◌↔◌, IfOk, IfErr, IsTrue, List, None, Ok, ℕ, false, length};
+ghost use Rattle.std.specs.Prelude.{◌≡◌, ◌↔◌, IfOk, IsTrue, List, None, ℕ, false, length};
 ghost use Rattle.std.specs.Str.{IsUtf8};
 ghost use Rattle.widestring.specs.ConvertedBytes.{EndsConverted};
 ghost use Rattle.widestring.specs.ConvertedStreams.{fails_to_read, fails_to_write};
@@ -8,12 +8,10 @@ ghost use Rattle.widestring.specs.Wtf8.{IsWtf8, wtf8};
 ghost use Rattle.wide_schemes.specs.declared.scheme.Scheme.TheVariants.{Utf16, Utf8};
 
 use std::alloc::Allocator;
-use widestring::U16String;
-use widestring::Utf16Str;
 use widestring::bytes::{ByteSink, ByteSource};
 use widestring::convert::{ConvertError, Scheme, convert};
 use widestring::wtf8::{FromWtf8Error, append_wtf8, check_wtf8, from_wtf8, laws, to_wtf8};
-use wide_error::OutOfMemory;
+use widestring::{U16String, Utf16Str};
 
 /// Stores units as bytes, and reads them back. Every unit survives, even half of a pair.
 pub fn stored_and_read<A: Allocator + Copy>(
