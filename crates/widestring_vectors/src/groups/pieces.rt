@@ -97,12 +97,12 @@ fn converted(
     let mut text = Vec::new(alloc);
     let mut rest = bytes;
     let mut stage = Stage::Going;
-    let mut seed = bytes.len() as u32;
+    let mut seed = u32::try_from(bytes.len()).unwrap_or(u32::MAX);
     // Each call reads a byte or writes one, except where a piece has none.
-    for _ in 0..64 * (bytes.len() as u64) + 64 {
+    for _ in 0..(bytes.len() as u64).saturating_mul(64).saturating_add(64) {
         seed = next_seed(seed);
         let (read, next) = push_piece(&mut converter, rest, pace, seed, &mut text)?;
-        rest = &rest[read..];
+        (_, rest) = rest.split_at(read.min(rest.len()));
         stage = next;
         if !matches!(stage, Stage::Going) {
             break;
