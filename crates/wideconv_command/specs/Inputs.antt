@@ -20,3 +20,7 @@ has_taken_end input = input.ended
 abbrev pub left_of : List ℕ → Bool → Option (List ℕ) → Option (List ℕ)
 left_of head true left = Some head
 left_of head false left = prepend_known head left
+
+-- The bytes that are left, given what the source below says of its end and of its bytes.
+abbrev pub left_by : {S : Type 0} → (S → Bool) → (S → Option (List ℕ)) → Input S → Option (List ℕ)
+left_by has_ended left input = left_of (head_of input) (has_ended (source_of input)) (left (source_of input))

@@ -2,7 +2,7 @@
 
 ghost use Rattle.std.specs.Prelude.{◌≡◌, false, true, [], IfOk, IfErr, drop};
 ghost use Rattle.std.specs.Io.KnownBytes.{Keeps};
-ghost use Rattle.wideconv_command.specs.Inputs.{has_taken_end, head_of, left_of, source_of};
+ghost use Rattle.wideconv_command.specs.Inputs.{has_taken_end, head_of, left_by, source_of};
 
 use std::io;
 use wide_bytes::{ByteSource, take_after};
@@ -68,7 +68,7 @@ impl<S: ByteSource> Input<S> {
     /// If the source fails.
     pub fn look(&mut self) -> io::Result<()>
         requires source_unfailed { S.has_failed (source_of self.old) ≡ false }
-        ensures left { Keeps (left_of (head_of self.old) (S.has_ended (source_of self.old)) (S.left (source_of self.old))) (left_of (head_of self.new) (S.has_ended (source_of self.new)) (S.left (source_of self.new))) }
+        ensures left { Keeps (left_by S.has_ended S.left self.old) (left_by S.has_ended S.left self.new) }
         ensures failed { IfOk result (λ looked. S.has_failed (source_of self.new) ≡ false) }
         ensures error { IfErr result (λ error. S.has_failed (source_of self.new) ≡ true) }
         ensures ended { has_taken_end self.new ≡ has_taken_end self.old }
@@ -105,9 +105,9 @@ impl<S: ByteSource> Input<S> {
 }
 
 impl<S: ByteSource> ByteSource for Input<S> {
-    ghost use Rattle.wideconv_command.specs.Inputs.{has_taken_end, head_of, left_of, source_of};
+    ghost use Rattle.wideconv_command.specs.Inputs.{has_taken_end, head_of, left_by, source_of};
 
-    ghost left = { λ input. left_of (head_of input) (S.has_ended (source_of input)) (S.left (source_of input)) };
+    ghost left = { λ input. left_by S.has_ended S.left input };
 
     ghost has_failed = { λ input. S.has_failed (source_of input) };
 

@@ -4,7 +4,7 @@ ghost use Rattle.std.specs.Prelude.{◌≡◌, ℕ, List, Some, None, Ok, false,
 ghost use Rattle.wide_schemes.specs.declared.scheme.Scheme.{Scheme};
 ghost use Rattle.wide_transcode.specs.Run.{Moves};
 ghost use Rattle.wideconv_command.specs.Boms.{scheme_by_bom};
-ghost use Rattle.wideconv_command.specs.Inputs.{has_taken_end, head_of, left_of, source_of};
+ghost use Rattle.wideconv_command.specs.Inputs.{has_taken_end, head_of, left_by, source_of};
 ghost use Rattle.wideconv_command.specs.Texts.{EndsText, error_behind};
 
 use crate::bom::{looks_like, scheme_by_bom};
@@ -107,7 +107,7 @@ pub fn convert_text<S: ByteSource, K: ByteSink>(
 
     // With a scheme that is named, it is a run of `convert`.
     ensures named { (scheme : Scheme) → conversion.from ≡ Some scheme → (bytes written : List ℕ)
-        × Moves (left_of (head_of source.old) (S.has_ended (source_of source.old)) (S.left (source_of source.old))) (left_of (head_of source.new) (S.has_ended (source_of source.new)) (S.left (source_of source.new))) (K.held sink.old) (K.held sink.new) bytes written
+        × Moves (left_by S.has_ended S.left source.old) (left_by S.has_ended S.left source.new) (K.held sink.old) (K.held sink.new) bytes written
         × EndsText scheme conversion 0 result (has_taken_end source.new) bytes written }
 {
     let Conversion {
