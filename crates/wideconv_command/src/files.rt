@@ -37,8 +37,10 @@ fn create_part<R: Files + AllocGlobal>(rt: &R, path: &str) -> io::Result<Written
 ///
 /// Any error of the system, and an allocation that failed.
 pub fn begin<R: Files + AllocGlobal>(rt: &R, path: &str) -> io::Result<Written<R::File>> {
-    let Ok(old) = fs::metadata(rt, path) else {
-        return create_part(rt, path);
+    let old = match fs::metadata(rt, path) {
+        Ok(old) => old,
+        Err(error) if error.kind() == ErrorKind::NotFound => return create_part(rt, path),
+        Err(error) => return Err(error),
     };
     if !old.is_file() {
         let file = OpenOptions::new().write(true).open(rt, path)?;
