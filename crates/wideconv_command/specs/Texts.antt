@@ -1,11 +1,13 @@
 -- How converting a text ends.
-use Rattle.std.specs.Prelude.{◌≡◌, ℕ, ◌+◌, ◌^◌, ◌-◌, min, Bool, false, List, Option, Result, Ok, Err, is_ok}
+use Rattle.std.specs.Prelude.{◌≡◌, ℕ, ◌+◌, ◌^◌, ◌-◌, min, Bool, false, List, Option, Some, Result, Ok, Err, is_ok}
 use Rattle.wide_schemes.specs.declared.scheme.Scheme.{Scheme}
 use Rattle.wide_transcode.specs.Run.{Moves}
 use Rattle.wide_convert.specs.Converted.{EndsConverted}
 use Rattle.wide_convert.specs.declared.error.ConvertError.{ConvertError}
 use Rattle.wide_convert.specs.declared.error.ConvertError.TheVariants.{Fault, PartOfUnit, TooLong, Read, Write}
 use Rattle.wide_convert.specs.declared.converter.TextFault.{TextFault}
+use Rattle.wideconv_command.specs.Inputs.{has_taken_end, left_by}
+use Rattle.wideconv_command.specs.declared.input.Input.{Input}
 use Rattle.wideconv_command.specs.declared.text.TextError.{TextError}
 use Rattle.wideconv_command.specs.declared.text.TextError.TheVariants.{NoBom, Stopped}
 use Rattle.wideconv_command.specs.declared.text.Conversion.{Conversion}
@@ -43,6 +45,12 @@ pub record Converts (from : Scheme) (by : Conversion) (left left' held held' : O
 -- How a request to write a form converts texts.
 abbrev pub conversion_of : Request → Scheme → Conversion
 conversion_of request to = record { from = request.from; to = to; policy = request.policy; bom = request.bom }
+
+-- If both forms are named, a text was converted as the request asks, from a source into a sink that held these bytes.
+-- `has_ended` and `left` say what the source below has of its end and of its bytes.
+abbrev pub ConvertsBy : {S : Type 0} → (S → Bool) → (S → Option (List ℕ)) → Input S → Input S → Option (List ℕ) → Option (List ℕ) → Request → Bool → Type 0
+ConvertsBy has_ended left source source' held held' request is_well =
+    (from to : Scheme) → request.from ≡ Some from → request.to ≡ Some to → Converts from (conversion_of request to) (left_by has_ended left source) (left_by has_ended left source') held held' (has_taken_end source') is_well
 
 -- Whether all went well: it ended without an error and says so.
 abbrev pub went_well : Result Bool TextError → Bool

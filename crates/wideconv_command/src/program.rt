@@ -2,13 +2,12 @@
 
 ghost use Rattle.std.specs.Prelude.{◌≡◌, ◌==◌, ◌≤◌, ◌⊎◌, [], Some, true, false};
 ghost use Rattle.std.specs.Io.KnownBytes.{Appends};
-ghost use Rattle.wide_schemes.specs.declared.scheme.Scheme.{Scheme};
-ghost use Rattle.wideconv_command.specs.Inputs.{has_taken_end, head_of, left_by, source_of};
+ghost use Rattle.wideconv_command.specs.Inputs.{has_taken_end, source_of};
 ghost use Rattle.wideconv_command.specs.Outputs.{sink_of};
-ghost use Rattle.wideconv_command.specs.Requests.{AsksToConvert};
+ghost use Rattle.wideconv_command.specs.Requests.{IsOfStreams};
 ghost use Rattle.wideconv_command.specs.declared.request.Asked.TheVariants.{List, Help, Version};
 ghost use Rattle.wideconv_command.specs.declared.request.Request.{Request};
-ghost use Rattle.wideconv_command.specs.Texts.{Converts, conversion_of, went_well};
+ghost use Rattle.wideconv_command.specs.Texts.{ConvertsBy, went_well};
 
 use crate::examining::{Total, examine, put_line};
 use crate::files::{begin, finish};
@@ -60,7 +59,7 @@ fn run_text<S: ByteSource, K: ByteSink>(
     requires source_unfailed { S.has_failed (source_of source.old) ≡ false }
     requires source_open { has_taken_end source.old ≡ false }
     requires sink_unfailed { K.has_failed sink.old ≡ false }
-    ensures converted { (from to : Scheme) → request.now.from ≡ Some from → request.now.to ≡ Some to → Converts from (conversion_of request.now to) (left_by S.has_ended S.left source.old) (left_by S.has_ended S.left source.new) (K.held sink.old) (K.held sink.new) (has_taken_end source.new) (went_well result) }
+    ensures converted { ConvertsBy S.has_ended S.left source.old source.new (K.held sink.old) (K.held sink.new) request.now (went_well result) }
 {
     let Some(to) = request.to else {
         return examine_text(source, sink, request, name);
@@ -89,7 +88,7 @@ fn run_one<S: ByteSource, K: ByteSink, F: ByteSink, P: ByteSink>(
     requires source_unfailed { S.has_failed (source_of source.old) ≡ false }
     requires source_open { has_taken_end source.old ≡ false }
     requires sink_unfailed { K.has_failed (sink_of sink.old) ≡ false }
-    ensures converted { (from to : Scheme) → request.now.from ≡ Some from → request.now.to ≡ Some to → Converts from (conversion_of request.now to) (left_by S.has_ended S.left source.old) (left_by S.has_ended S.left source.new) (K.held (sink_of sink.old)) (K.held (sink_of sink.new)) (has_taken_end source.new) result }
+    ensures converted { ConvertsBy S.has_ended S.left source.old source.new (K.held (sink_of sink.old)) (K.held (sink_of sink.new)) request.now result }
     ensures quiet { result ≡ true → faults.new ≡ faults.old }
 {
     match run_text(source, sink, request, name) {
@@ -146,7 +145,7 @@ fn run_files<R: Files, S: ByteSource, K: ByteSink, F: ByteSink, P: ByteSink>(
     requires input_unfailed { S.has_failed (source_of input.old) ≡ false }
     requires input_open { has_taken_end input.old ≡ false }
     requires sink_unfailed { K.has_failed (sink_of sink.old) ≡ false }
-    ensures converted { (from to : Scheme) → files.now ≡ [] → request.now.from ≡ Some from → request.now.to ≡ Some to → Converts from (conversion_of request.now to) (left_by S.has_ended S.left input.old) (left_by S.has_ended S.left input.new) (K.held (sink_of sink.old)) (K.held (sink_of sink.new)) (has_taken_end input.new) result }
+    ensures converted { files.now ≡ [] → ConvertsBy S.has_ended S.left input.old input.new (K.held (sink_of sink.old)) (K.held (sink_of sink.new)) request.now result }
     ensures quiet { files.now ≡ [] → result ≡ true → faults.new ≡ faults.old }
 {
     if files.is_empty() {
@@ -231,7 +230,7 @@ pub fn command<R: Files + AllocGlobal, S: ByteSource, K: ByteSink, F: ByteSink, 
     requires sink_unfailed { K.has_failed (sink_of sink.old) ≡ false }
 
     // Standard input is converted to standard output from a form that is named: it is a run of `convert`.
-    ensures converted { (from to : Scheme) (request : Request) → AsksToConvert from to request asked.now → Converts from (conversion_of request to) (left_by S.has_ended S.left input.old) (left_by S.has_ended S.left input.new) (K.held (sink_of sink.old)) (K.held (sink_of sink.new)) (has_taken_end input.new) (result == 0) }
+    ensures converted { (request : Request) → IsOfStreams request asked.now → ConvertsBy S.has_ended S.left input.old input.new (K.held (sink_of sink.old)) (K.held (sink_of sink.new)) request (result == 0) }
 
     // A list, help or the version is printed, and nothing is read.
     ensures list { asked.now ≡ List → result ≡ 0 → Appends (K.held (sink_of sink.old)) (K.held (sink_of sink.new)) FORMS_LIST.now }
