@@ -1,28 +1,213 @@
-//! Prints the lines of a UTF-16 file that contain a word, each with its number.
+//! Prints the lines of files that contain a word, as `grep` does, whatever form of Unicode the files have.
+//!
+//! A BOM decides the form, or `--form`. A file without either is read if it looks like UTF-16LE. Another one is not read,
+//! and what it looks like is said. The status is 0 if a line was found, 1 if none was, and 2 after an error.
 #![tactic(auto)]
 
+use std::alloc::{AllocError, Global};
+use std::fmt::Write;
 use std::process::ExitCode;
-use std::{env, fs, io};
-use widestring::bytes::utf16_of_bytes;
+use wide_files::{Document, Form, OptionWord, Outcome, Program, Shown, form_named, form_of, run};
+use widestring::convert::Scheme;
+use widestring::error::OutOfMemory;
 use widestring::{U16Str, U16String};
 
-fn main(rt: HostRuntime) -> io::Result<ExitCode> {
-    let mut args = env::args(&rt)?.skip(1);
-    let (Some(path), Some(word)) = (args.next(), args.next()) else {
-        eprintln!(rt; "usage: lines FILE WORD")?;
-        return Ok(ExitCode::from(2));
-    };
-    let bytes = fs::read(&rt, path)?;
-    let file = utf16_of_bytes(&bytes);
-    if file.half.is_some() {
-        eprintln!(rt; "half of a unit is left at the end")?;
+static OPTIONS: [OptionWord; 5] = [
+    OptionWord {
+        name: "-n",
+        has_value: false,
+    },
+    OptionWord {
+        name: "-i",
+        has_value: false,
+    },
+    OptionWord {
+        name: "-b",
+        has_value: false,
+    },
+    OptionWord {
+        name: "--cr",
+        has_value: false,
+    },
+    OptionWord {
+        name: "--form",
+        has_value: true,
+    },
+];
+
+const HELP: &str = "\
+Prints the lines of the files that contain the word.
+
+  -n           prints the number of each line, from 1
+  -i           ASCII letters in either case are the same
+  -b           prints where the word is in each line, in units, from 0
+  --cr         a carriage return alone ends a line too
+  --form FORM  the form of the files: UTF-8, UTF-16LE, UTF-32BE, CP1252 ..;
+               without it a BOM decides, and a file without one is UTF-16LE
+  --help, --version
+
+For the file - it reads standard input. The exit status is 0 if a line was found,
+1 if none was, and 2 after an error.
+";
+
+// What is searched for, and how.
+#[derive(Drop)]
+struct Lines {
+    word: U16String,
+    numbers: bool,
+    any_case: bool,
+    offsets: bool,
+    ends_at_return: bool,
+    form: Option<Form>,
+    // Whether a line was found.
+    found: bool,
+    // Whether something of a file was not read.
+    unread: bool,
+}
+
+impl Lines {
+    // Prints where the word is in a line.
+    fn put_offsets(&self, output: &mut String, line: U16Str<'_>) -> Result<(), AllocError> {
+        let mut from = 0;
+        let mut separator = "";
+        while let Some(offset) = self.find(line.get(from..).unwrap_or_default()) {
+            let at = from.saturating_add(offset);
+            write!(output, "{separator}{at}")?;
+            separator = ",";
+            from = at.saturating_add(self.word.len().max(1));
+        }
+        output.push(':')
     }
-    let units: Vec<u16> = file.units.collect(rt.alloc())?;
-    let needle = U16String::from_str(rt.alloc(), &word)?;
-    for (number, line) in U16Str::from_slice(&units).lines_lossy().enumerate() {
-        if line.contains(needle.as_ustr()) {
-            println!(rt; "{}: {}", number + 1, line.display())?;
+
+    // Returns the offset of the word in a text.
+    fn find(&self, text: U16Str<'_>) -> Option<usize> {
+        if self.any_case {
+            text.find_ignore_ascii_case(self.word.as_ustr())
+        } else {
+            text.find(self.word.as_ustr())
         }
     }
-    Ok(ExitCode::SUCCESS)
+
+    // Prints a line if it has the word.
+    fn read_line(
+        &mut self,
+        outcome: &mut Outcome<'_>,
+        number: usize,
+        line: U16Str<'_>,
+    ) -> Result<(), AllocError> {
+        if self.find(line).is_none() {
+            return Ok(());
+        }
+        self.found = true;
+        if !outcome.file.is_empty() {
+            write!(outcome.output, "{}:", outcome.file)?;
+        }
+        if self.numbers {
+            write!(outcome.output, "{number}:")?;
+        }
+        if self.offsets {
+            self.put_offsets(&mut outcome.output, line)?;
+        }
+        writeln!(outcome.output, "{}", Shown(line))
+    }
+
+    // Prints the lines of a text that have the word.
+    fn read_text(&mut self, outcome: &mut Outcome<'_>, text: U16Str<'_>) -> Result<(), AllocError> {
+        let mut number: usize = 0;
+        for line in text.lines_lossy() {
+            if self.ends_at_return {
+                for part in line.split_char('\r') {
+                    number = number.saturating_add(1);
+                    self.read_line(outcome, number, part)?;
+                }
+            } else {
+                number = number.saturating_add(1);
+                self.read_line(outcome, number, line)?;
+            }
+        }
+        Ok(())
+    }
+}
+
+impl Program for Lines {
+    fn name() -> &'static str {
+        "lines"
+    }
+
+    fn usage() -> &'static str {
+        "lines [-n] [-i] [-b] [--cr] [--form FORM] WORD FILE.."
+    }
+
+    fn help() -> &'static str {
+        HELP
+    }
+
+    fn options() -> &'static [OptionWord] {
+        &OPTIONS
+    }
+
+    fn set(&mut self, option: usize, value: &str) -> Result<bool, OutOfMemory> {
+        match option {
+            0 => self.numbers = true,
+            1 => self.any_case = true,
+            2 => self.offsets = true,
+            3 => self.ends_at_return = true,
+            _ => {
+                self.form = form_named(value);
+                return Ok(self.form.is_some());
+            }
+        }
+        Ok(true)
+    }
+
+    fn take_words<'a>(&mut self, words: &'a [String]) -> Result<Option<&'a [String]>, OutOfMemory> {
+        let [word, files @ ..] = words else {
+            return Ok(None);
+        };
+        self.word.push_str(word.as_str())?;
+        Ok(if files.is_empty() { None } else { Some(files) })
+    }
+
+    fn read(
+        &mut self,
+        alloc: Global,
+        bytes: &[u8],
+        outcome: &mut Outcome<'_>,
+    ) -> Result<(), OutOfMemory> {
+        let (form, bom) = match form_of(bytes, self.form, Scheme::Utf16Le) {
+            Ok(found) => found,
+            Err(error) => {
+                self.unread = true;
+                return Ok(outcome.report(error)?);
+            }
+        };
+        let document = Document::read(alloc, bytes.get(bom..).unwrap_or_default(), form)?;
+        for bad in &document.bad {
+            self.unread = true;
+            outcome.report(format_args!("unit {}: {bad}", bad.unit))?;
+        }
+        Ok(self.read_text(outcome, U16Str::from_slice(&document.units))?)
+    }
+
+    fn status(&self, _reported: bool, failed: bool) -> u8 {
+        if failed || self.unread {
+            2
+        } else {
+            u8::from(!self.found)
+        }
+    }
+}
+
+fn main(rt: HostRuntime) -> ExitCode {
+    let lines = Lines {
+        word: U16String::new(rt.alloc()),
+        numbers: false,
+        any_case: false,
+        offsets: false,
+        ends_at_return: false,
+        form: None,
+        found: false,
+        unread: false,
+    };
+    run(&rt, lines)
 }

@@ -1,0 +1,2 @@
+pub mod Boms
+pub mod Forms

@@ -1,0 +1,67 @@
+//! What a program writes for a file.
+
+ghost use Rattle.std.specs.Prelude.{◌≡◌, ◌<◌, ◌≤◌, string_len};
+
+use std::alloc::{AllocError, Global};
+use std::fmt::{Display, Write};
+
+/// A place in a text.
+#[derive(Clone, Copy, Debug, PartialEq, Eq)]
+pub struct Place {
+    /// The number of its line, from 1.
+    pub line: usize,
+    /// The index of its unit in that line, from 0.
+    pub unit: usize,
+}
+
+/// What a program writes for a file: its output, and what it reports.
+#[derive(Drop)]
+pub struct Outcome<'a> {
+    /// The name of the file, which precedes each report, or nothing if there is only one file.
+    pub file: &'a str,
+    /// The output.
+    pub output: String,
+    /// The reports, a line each.
+    pub reported: String,
+}
+
+impl<'a> Outcome<'a> {
+    /// Returns an outcome without output or reports.
+    pub fn new(alloc: Global, file: &'a str) -> Outcome<'a>
+        ensures output { string_len result.output ≡ 0 }
+        ensures reported { string_len result.reported ≡ 0 }
+    {
+        Outcome {
+            file,
+            output: String::new(alloc),
+            reported: String::new(alloc),
+        }
+    }
+
+    /// Reports something about the file.
+    ///
+    /// # Errors
+    ///
+    /// If an allocation fails.
+    pub fn report<T: Display + Drop>(&mut self, what: T) -> Result<(), AllocError> {
+        if self.file.is_empty() {
+            writeln!(self.reported, "{what}")
+        } else {
+            writeln!(self.reported, "{}: {what}", self.file)
+        }
+    }
+
+    /// Reports something about a place.
+    ///
+    /// # Errors
+    ///
+    /// If an allocation fails.
+    pub fn report_at<T: Display + Drop>(
+        &mut self,
+        place: Place,
+        what: T,
+    ) -> Result<(), AllocError> {
+        let Place { line, unit } = place;
+        self.report(format_args!("line {line}, unit {unit}: {what}"))
+    }
+}
