@@ -1,6 +1,7 @@
 //! Answers questions of the test vectors by the calls of `str`, `String` and `char`, and compares the answers with the
 //! recorded ones. `bench/str` builds and runs it. README.md of crates/widestring_replay explains a line of the files,
-//! and `src/groups/` of crates/widestring_vectors and crates/widestring_string_vectors their questions.
+//! and `src/groups/` of crates/widestring_vectors, crates/widestring_search_vectors and
+//! crates/widestring_string_vectors their questions.
 
 mod str_owned;
 mod str_words;

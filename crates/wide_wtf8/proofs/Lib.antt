@@ -4,3 +4,4 @@ pub mod DecodedParts
 pub mod Faults
 pub mod Appends
 pub mod DecodedWindows
+mod UnitsOfSlices

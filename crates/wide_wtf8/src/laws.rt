@@ -1,4 +1,10 @@
-//! The laws of WTF-8. Each law is a function that does nothing, and its contract is the law.
+//! The laws of WTF-8. Each law is a function that does nothing, and its contract is the law. Two of them are laws of the
+//! slices that they are given, so that a caller's proof needs no instance of a law of all lists.
+ghost use Rattle.std.specs.Prelude.{◌≡◌, ◌↔◌};
+ghost use Rattle.std.specs.Str.{IsUtf8};
+ghost use Rattle.wide_forms.specs.EncodingForm.{Utf16};
+ghost use Rattle.wide_forms.specs.Items.{IsWellFormed};
+ghost use Rattle.wide_schemes.specs.Wtf8.{wtf8};
 ghost use Rattle.wide_wtf8.specs.Statements.{CodePointsAreOfUnits, FirstFaultIsAfterText, FirstFaultIsAtOneIndex, HalvesJoin, LongestPrefixEndsAtFault, TextHasNoFault, TextIsOfCodePoints, TextIsOfItems, TextIsOfOneList, TextsJoin, WellFormedHasUtf8, WellFormedIsUtf8};
 
 /// States that units have a text of their own: different units have different texts.
@@ -6,11 +12,21 @@ pub fn one_list_of_units()
     ensures { TextIsOfOneList }
 {}
 
+/// States that units are the same if their texts are.
+pub fn same_units(units: &[u16], others: &[u16])
+    ensures { wtf8 units.now ≡ wtf8 others.now → units.now ≡ others.now }
+{}
+
 /// States that the text of units is UTF-8 exactly if the units are well formed, and that it is then the UTF-8 of their
 /// characters (Unicode Standard, D85 and D92).
 pub fn text_of_well_formed()
     ensures utf8 { WellFormedIsUtf8 }
     ensures characters { WellFormedHasUtf8 }
+{}
+
+/// States that the text of these units is UTF-8 exactly if they are well formed.
+pub fn text_is_utf8(units: &[u16])
+    ensures { IsUtf8 (wtf8 units.now) ↔ IsWellFormed Utf16 units.now }
 {}
 
 /// States both round trips. The items of the text of units are their code points, whose units are the units. Bytes that

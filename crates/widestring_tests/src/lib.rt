@@ -1,5 +1,5 @@
-//! Callers of the library, and the tests that can't be test vectors; those are in `widestring_vectors` and
-//! `widestring_string_vectors`.
+//! Callers of the library, and the tests that can't be test vectors; those are in `widestring_vectors`,
+//! `widestring_search_vectors` and `widestring_string_vectors`.
 //!
 //! The callers show what the contracts say at concrete types; each is proved. The tests are about sources that yield
 //! more after their end or report wrong bounds, about devices, errors and laws, random edits and edits that an

@@ -180,6 +180,7 @@ pub mod wtf8 {
 
 pub mod wtf8_laws {
     pub use widestring::wtf8::laws::{
-        faults_of_bytes, joined_texts, one_list_of_units, round_trips, text_of_well_formed,
+        faults_of_bytes, joined_texts, one_list_of_units, round_trips, same_units, text_is_utf8,
+        text_of_well_formed,
     };
 }

@@ -1,34 +1,22 @@
 //! The groups of cases, and the calls of the library that each makes.
 
 mod answers;
-mod backs;
 mod bytes;
-mod case;
 mod compare;
 mod conversions;
 mod devices;
 mod encode;
-mod ends;
 mod files;
 mod from_slice;
 mod hints;
 mod items;
-mod kinds;
 mod lossy;
-mod made;
-mod matches;
 mod names;
-mod nocase;
 mod offsets;
 mod pieces;
 mod policies;
 mod prints;
-mod replaced;
 mod schemes;
-mod searches;
-mod sets;
-mod splits;
-mod terminated;
 mod texts;
 mod units;
 mod views;
@@ -36,7 +24,6 @@ mod walks;
 mod width;
 mod wtf8;
 
-use sets::SetCalls;
 use std::alloc::Global;
 use widestring::Policy;
 use widestring::iter::End;
@@ -45,7 +32,7 @@ use widestring_replay::parse::{self, Memory, NoAnswer};
 use widestring_replay::show::Answer;
 use width::Width;
 
-/// Decoders, encoders, views with their iterators, conversions, searches and devices.
+/// Decoders, encoders, views with their iterators, conversions and devices.
 pub struct ViewSuite;
 
 // The groups whose lists are characters.
@@ -108,20 +95,10 @@ enum OfUnits {
     Bytes,
     LossyText,
     ToString,
-    Searches,
-    Case,
-    Replaced,
-    Splits,
-    Backs,
-    Ends,
-    Matches,
-    Nocase,
-    Terminated,
-    Sets(SetCalls),
     Decoded(Decoder),
 }
 
-static OF_UNITS: [(&str, OfUnits); 30] = [
+static OF_UNITS: [(&str, OfUnits); 18] = [
     ("items", OfUnits::Decoded(Decoder::Strict)),
     ("lossy", OfUnits::Decoded(Decoder::Lossy)),
     ("hints_lossy", OfUnits::Decoded(Decoder::LossyHints)),
@@ -140,18 +117,6 @@ static OF_UNITS: [(&str, OfUnits); 30] = [
     ("bytes", OfUnits::Bytes),
     ("lossy_text", OfUnits::LossyText),
     ("to_string", OfUnits::ToString),
-    ("searches", OfUnits::Searches),
-    ("case", OfUnits::Case),
-    ("replaced", OfUnits::Replaced),
-    ("splits", OfUnits::Splits),
-    ("nocase", OfUnits::Nocase),
-    ("sets", OfUnits::Sets(SetCalls::Substrings)),
-    ("words", OfUnits::Sets(SetCalls::Words)),
-    ("trims", OfUnits::Sets(SetCalls::Trims)),
-    ("terminated", OfUnits::Terminated),
-    ("backs", OfUnits::Backs),
-    ("matches", OfUnits::Matches),
-    ("ends", OfUnits::Ends),
 ];
 
 impl Suite for ViewSuite {
@@ -275,16 +240,6 @@ fn with_units<C: Width>(
         OfUnits::Bytes => C::bytes(memory, answer, units, question),
         OfUnits::LossyText => conversions::lossy(memory, answer, units, question),
         OfUnits::ToString => C::text(memory, answer, units, question),
-        OfUnits::Searches => searches::found(alloc, answer, units, question),
-        OfUnits::Case => case::asked(memory, answer, units, question),
-        OfUnits::Replaced => replaced::asked(memory, answer, units, question),
-        OfUnits::Splits => splits::asked(memory, answer, units, question),
-        OfUnits::Nocase => nocase::asked(memory, answer, units, question),
-        OfUnits::Terminated => terminated::asked(memory, answer, units, question),
-        OfUnits::Backs => backs::asked(memory, answer, units, question),
-        OfUnits::Ends => ends::asked(memory, answer, units, question),
-        OfUnits::Matches => matches::asked(memory, answer, units, question),
-        OfUnits::Sets(calls) => sets::asked(memory, answer, calls, units, question),
         OfUnits::Decoded(decoder) => decoded(memory, answer, decoder, units, question),
     }
 }

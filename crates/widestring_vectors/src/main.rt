@@ -1,4 +1,4 @@
-//! Runs the test vectors of views, their iterators, conversions and searches, which are in `data/`. README.md of
+//! Runs the test vectors of views, their iterators, conversions and devices, which are in `data/`. README.md of
 //! `widestring_replay` explains a line of each group.
 #![tactic(auto)]
 

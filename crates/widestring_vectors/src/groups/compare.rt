@@ -7,8 +7,7 @@
 //! - `mixed` asks whether text is equal to the other units, to the C string of them, and to their text at the other
 //!   width, each from both sides. `str` asks whether the text is equal to the text of the other units as a `str`, and
 //!   `chars` whether it has its characters.
-use crate::groups::texts::c_string;
-use crate::groups::width::{Width, as_text};
+use crate::groups::width::Width;
 use std::alloc::Global;
 use std::hash::{DefaultHasher, Hash, Hasher};
 use widestring::ucstring::UCString;
@@ -16,7 +15,7 @@ use widestring::ustr::UStr;
 use widestring::ustring::UString;
 use widestring::utfstr::{UCStrInUtfstr, UStrInUtfstr, UtfStr};
 use widestring::utfstring::UtfString;
-use widestring_replay::made::text_of;
+use widestring_replay::made::{as_text, c_string_of, text_of};
 use widestring_replay::parse::{self, NoAnswer};
 use widestring_replay::show::Answer;
 
@@ -71,14 +70,14 @@ fn of_c_strings<C: Width>(answer: &mut Answer, left: &UCString<C>, right: &UCStr
 }
 
 fn contents<C: Width>(alloc: Global, answer: &mut Answer, list: &[C], other: &[C]) {
-    match c_string(alloc, list) {
+    match c_string_of(alloc, list) {
         Ok(left) => to_contents(alloc, answer, &left, other),
         Err(error) => answer.fail(error),
     }
 }
 
 fn to_contents<C: Width>(alloc: Global, answer: &mut Answer, left: &UCString<C>, other: &[C]) {
-    match c_string(alloc, other) {
+    match c_string_of(alloc, other) {
         Ok(right) => of_c_strings(answer, left, &right),
         Err(error) => answer.fail(error),
     }
@@ -150,7 +149,7 @@ fn to_text<C: Width>(
 
 // Adds whether a text is equal to the contents of a C string of units, if there is one.
 fn with_contents<C: Width>(answer: &mut Answer, alloc: Global, list: UtfStr<'_, C>, other: &[C]) {
-    match c_string(alloc, other) {
+    match c_string_of(alloc, other) {
         Ok(string) => {
             answer.decided(list.eq_ucstr(string.as_ucstr()));
             answer.decided(string.as_ucstr().eq_utfstr(list));

@@ -13,7 +13,6 @@
 //! A conversion makes one request, and none if there is nothing to store or the text is borrowed; else the answer has a
 //! `?`. Lossy text of which a policy leaves nothing may also make one.
 use crate::groups::bytes::{self, Order};
-use crate::groups::width::as_text;
 use std::alloc::{Allocator, Global};
 use widestring::bytes::include_utf16str;
 use widestring::error::{
@@ -25,7 +24,7 @@ use widestring::ustr::UStr;
 use widestring::utfstr::UtfStr;
 use widestring::utfstring::{CowUtfStr, UtfString};
 use widestring::{Policy, U16CStr, U16Str, U32CStr, U32Str, Utf16String, Utf32String};
-use widestring_replay::made;
+use widestring_replay::made::{self, as_text};
 use widestring_replay::parse::{self, Memory, NoAnswer};
 use widestring_replay::show::{Answer, ReportedUnit};
 use widestring_testing::Heap;

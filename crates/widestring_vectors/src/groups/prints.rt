@@ -15,7 +15,7 @@
 //!   `escape_unicode`, and `drain` for the characters of a range, which follows the calls.
 ghost use Rattle.std.specs.Iterator.{IsFinite};
 
-use crate::groups::width::{Width, as_contents, as_text};
+use crate::groups::width::Width;
 use std::alloc::Global;
 use std::fmt::{self, Debug, Display, Write};
 use std::ops::Bound;
@@ -30,6 +30,7 @@ use widestring::ustring::{CowUStr, UStrInUstring, UString};
 use widestring::utfstr::UtfStr;
 use widestring::utfstring::{UtfStrInUtfstring, UtfString};
 use widestring_replay::asked;
+use widestring_replay::made::{as_contents, as_text};
 use widestring_replay::parse::{self, NoAnswer};
 use widestring_replay::show::Answer;
 

@@ -12,7 +12,7 @@
 //!   `>`. `x` is whether the text and another are equal, `1` or `0`.
 ghost use Rattle.std.specs.Iterator.{IsFinite};
 
-use crate::groups::width::{Width, as_text};
+use crate::groups::width::Width;
 use std::alloc::Global;
 use std::cmp::Ordering;
 use std::fmt::{Debug, Display};
@@ -22,7 +22,7 @@ use widestring::ucstring::UCString;
 use widestring::ustr::UStr;
 use widestring::utfstr::UtfStr;
 use widestring::utfstring::UtfStrInUtfstring;
-use widestring_replay::made::text_of;
+use widestring_replay::made::{as_text, c_string_of, text_of};
 use widestring_replay::parse::{self, FromHex, NoAnswer};
 use widestring_replay::show::Answer;
 
@@ -48,16 +48,8 @@ fn debugged(alloc: Global, answer: &mut Answer, value: &impl Debug) {
     }
 }
 
-/// Returns the C string of units and a NUL.
-pub fn c_string<C: FaultUnit>(alloc: Global, units: &[C]) -> Result<UCString<C>, NoAnswer> {
-    match UCString::from_ustr(alloc, UStr::from_slice(units)) {
-        Ok(string) => Ok(string),
-        Err(_) => Err(NoAnswer::Unparsed),
-    }
-}
-
 fn debugged_contents<C: FaultUnit>(alloc: Global, answer: &mut Answer, units: &[C]) {
-    match c_string(alloc, units) {
+    match c_string_of(alloc, units) {
         Ok(string) => debugged(alloc, answer, &string),
         Err(error) => answer.fail(error),
     }
@@ -105,7 +97,7 @@ fn order_with<C: FaultUnit>(answer: &mut Answer, view: UStr<'_, C>, contents: UC
 }
 
 fn with_contents<C: FaultUnit>(alloc: Global, answer: &mut Answer, view: UStr<'_, C>, other: &[C]) {
-    match c_string(alloc, other) {
+    match c_string_of(alloc, other) {
         Ok(string) => order_with(answer, view, string.as_ucstr()),
         Err(error) => answer.fail(error),
     }

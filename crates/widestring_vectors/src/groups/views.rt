@@ -11,12 +11,13 @@
 //! - For text, `count` is its number of characters, `offset` and an index the offset of a character, `boundary` and an
 //!   offset whether it is a boundary, and `at` and an index a character.
 use crate::groups::answers;
-use crate::groups::width::{Width, as_contents, as_text};
+use crate::groups::width::Width;
 use std::ops::Bound;
 use widestring::error::UtfError;
 use widestring::ucstr::UCStr;
 use widestring::ustr::UStr;
 use widestring::utfstr::UtfStr;
+use widestring_replay::made::{as_contents, as_text};
 use widestring_replay::parse::{self, NoAnswer};
 use widestring_replay::show::Answer;
 

@@ -10,7 +10,7 @@
 //! the lines, and `lengths` for the length of each iterator that has one, at first and after a call from the back.
 ghost use Rattle.std.specs.Iterator.{IsFinite};
 
-use crate::groups::width::{Width, as_contents, as_text};
+use crate::groups::width::Width;
 use std::alloc::Global;
 use widestring::iter::{End, decode_utf32, decode_utf32_lossy, encode_utf32};
 use widestring::ucstr::UCStr;
@@ -18,6 +18,7 @@ use widestring::ustr::{CharIndices, CharIndicesLossy, Chars, CharsLossy, CharsLo
 use widestring::utfstr::{CharIndices as TextIndices, Chars as TextChars, CodeUnits, UtfStr};
 use widestring::{Policy, U32Str, Utf16Str, Utf32Str};
 use widestring_replay::asked;
+use widestring_replay::made::{as_contents, as_text};
 use widestring_replay::parse::{self, NoAnswer};
 use widestring_replay::show::{Answer, ReportedUnit};
 

@@ -6,27 +6,10 @@ use crate::groups::{bytes, conversions, hints, items, lossy, policies, prints, w
 use std::alloc::Global;
 use std::hash::Hash;
 use widestring::iter::End;
-use widestring::ucstr::UCStr;
-use widestring::utfstr::UtfStr;
 use widestring::{Policy, U16CStr, U32CStr, Utf16Str, Utf16String, Utf32Str, Utf32String};
+use widestring_replay::made::as_text;
 use widestring_replay::parse::{FromHex, Memory, NoAnswer};
 use widestring_replay::show::{Answer, ReportedUnit};
-
-/// Returns the text of units.
-pub fn as_text<C: ReportedUnit>(units: &[C]) -> Result<UtfStr<'_, C>, NoAnswer> {
-    match UtfStr::from_slice(units) {
-        Ok(text) => Ok(text),
-        Err(_) => Err(NoAnswer::Unparsed),
-    }
-}
-
-/// Returns the C string of units that end with a NUL.
-pub fn as_contents<C: ReportedUnit>(units: &[C]) -> Result<UCStr<'_, C>, NoAnswer> {
-    match UCStr::from_slice(units) {
-        Ok(contents) => Ok(contents),
-        Err(_) => Err(NoAnswer::Unparsed),
-    }
-}
 
 /// A width of units.
 pub trait Width: ReportedUnit + FromHex + Ord + Hash + 'static {

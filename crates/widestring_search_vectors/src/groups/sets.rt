@@ -9,13 +9,13 @@
 //!   suffix, and those without both. With a `-` for the set these are the calls that take none, for White_Space.
 //! - Of `words*` the set is `w` or `a`. The answer has how many substrings between such characters are not empty, and
 //!   as further fields the units of each.
-use crate::groups::answers::substrings;
 use crate::groups::kinds::{self, Kind};
-use crate::groups::width::{Width, as_contents, as_text};
+use crate::groups::parts::substrings;
 use widestring::search::{AsciiWhiteSpace, CharSet, WhiteSpace};
 use widestring::ucstr::UCStr;
 use widestring::ustr::UStr;
 use widestring::utfstr::UtfStr;
+use widestring_replay::made::{as_contents, as_text};
 use widestring_replay::parse::{self, Memory, NoAnswer};
 use widestring_replay::show::{Answer, ReportedUnit};
 
@@ -215,7 +215,7 @@ fn one(chars: &[char]) -> Result<char, NoAnswer> {
     }
 }
 
-fn of_kind<C: Width>(
+fn of_kind<C: ReportedUnit>(
     answer: &mut Answer,
     calls: SetCalls,
     units: &[C],
@@ -241,7 +241,7 @@ fn parsed(question: &str) -> Result<Parts<'_>, NoAnswer> {
     Ok((kind, parse::named(&SETS, set)?, chars))
 }
 
-fn with_parts<C: Width>(
+fn with_parts<C: ReportedUnit>(
     memory: Memory<'_>,
     answer: &mut Answer,
     calls: SetCalls,
@@ -255,7 +255,7 @@ fn with_parts<C: Width>(
 }
 
 /// Adds the answer to a question about a set of characters in units of either width.
-pub fn asked<C: Width>(
+pub fn asked<C: ReportedUnit>(
     memory: Memory<'_>,
     answer: &mut Answer,
     calls: SetCalls,

@@ -4,14 +4,14 @@
 //!
 //! The separator is a view of the same kind (`v`), one unit (`o`), a character (`c`), or any character of a list (`s`).
 //! The answer is how many substrings there are, and as further fields the units of each.
-use crate::groups::answers::substrings;
 use crate::groups::kinds::{self, Kind};
-use crate::groups::width::{Width, as_contents, as_text};
+use crate::groups::parts::substrings;
 use widestring::ucstr::UCStr;
 use widestring::ustr::UStr;
 use widestring::utfstr::UtfStr;
+use widestring_replay::made::{as_contents, as_text};
 use widestring_replay::parse::{self, Memory, NoAnswer};
-use widestring_replay::show::Answer;
+use widestring_replay::show::{Answer, ReportedUnit};
 
 // The separators.
 #[derive(Clone, Copy)]
@@ -42,7 +42,7 @@ macro_rules! between {
     };
 }
 
-fn units_at_units<C: Width>(
+fn units_at_units<C: ReportedUnit>(
     answer: &mut Answer,
     view: UStr<'_, C>,
     needle: UStr<'_, C>,
@@ -54,21 +54,31 @@ fn units_at_units<C: Width>(
     }
 }
 
-fn units_at_unit<C: Width>(answer: &mut Answer, view: UStr<'_, C>, unit: C, most: Option<usize>) {
+fn units_at_unit<C: ReportedUnit>(
+    answer: &mut Answer,
+    view: UStr<'_, C>,
+    unit: C,
+    most: Option<usize>,
+) {
     match most {
         None => substrings!(answer, view.split_unit(unit)),
         Some(count) => substrings!(answer, view.splitn_unit(count, unit)),
     }
 }
 
-fn units_at_char<C: Width>(answer: &mut Answer, view: UStr<'_, C>, c: char, most: Option<usize>) {
+fn units_at_char<C: ReportedUnit>(
+    answer: &mut Answer,
+    view: UStr<'_, C>,
+    c: char,
+    most: Option<usize>,
+) {
     match most {
         None => substrings!(answer, view.split_char(c)),
         Some(count) => substrings!(answer, view.splitn_char(count, c)),
     }
 }
 
-fn contents_at_contents<C: Width>(
+fn contents_at_contents<C: ReportedUnit>(
     answer: &mut Answer,
     view: UCStr<'_, C>,
     needle: UCStr<'_, C>,
@@ -80,7 +90,7 @@ fn contents_at_contents<C: Width>(
     }
 }
 
-fn contents_at_unit<C: Width>(
+fn contents_at_unit<C: ReportedUnit>(
     answer: &mut Answer,
     view: UCStr<'_, C>,
     unit: C,
@@ -92,7 +102,7 @@ fn contents_at_unit<C: Width>(
     }
 }
 
-fn contents_at_char<C: Width>(
+fn contents_at_char<C: ReportedUnit>(
     answer: &mut Answer,
     view: UCStr<'_, C>,
     c: char,
@@ -104,7 +114,7 @@ fn contents_at_char<C: Width>(
     }
 }
 
-fn text_at_text<C: Width>(
+fn text_at_text<C: ReportedUnit>(
     answer: &mut Answer,
     text: UtfStr<'_, C>,
     needle: UtfStr<'_, C>,
@@ -116,7 +126,12 @@ fn text_at_text<C: Width>(
     }
 }
 
-fn text_at_char<C: Width>(answer: &mut Answer, text: UtfStr<'_, C>, c: char, most: Option<usize>) {
+fn text_at_char<C: ReportedUnit>(
+    answer: &mut Answer,
+    text: UtfStr<'_, C>,
+    c: char,
+    most: Option<usize>,
+) {
     match most {
         None => substrings!(answer, text.split_char(c)),
         Some(count) => substrings!(answer, text.splitn_char(count, c)),
@@ -124,7 +139,7 @@ fn text_at_char<C: Width>(answer: &mut Answer, text: UtfStr<'_, C>, c: char, mos
 }
 
 // Splits units at a view of the same kind.
-fn at_view<C: Width>(
+fn at_view<C: ReportedUnit>(
     answer: &mut Answer,
     kind: Kind,
     units: &[C],
@@ -147,7 +162,13 @@ fn at_view<C: Width>(
     }
 }
 
-fn at_unit<C: Width>(answer: &mut Answer, kind: Kind, units: &[C], unit: C, most: Option<usize>) {
+fn at_unit<C: ReportedUnit>(
+    answer: &mut Answer,
+    kind: Kind,
+    units: &[C],
+    unit: C,
+    most: Option<usize>,
+) {
     match kind {
         Kind::Units => units_at_unit(answer, UStr::from_slice(units), unit, most),
         Kind::Text => answer.fail(NoAnswer::Unparsed),
@@ -158,7 +179,13 @@ fn at_unit<C: Width>(answer: &mut Answer, kind: Kind, units: &[C], unit: C, most
     }
 }
 
-fn at_char<C: Width>(answer: &mut Answer, kind: Kind, units: &[C], c: char, most: Option<usize>) {
+fn at_char<C: ReportedUnit>(
+    answer: &mut Answer,
+    kind: Kind,
+    units: &[C],
+    c: char,
+    most: Option<usize>,
+) {
     match kind {
         Kind::Units => units_at_char(answer, UStr::from_slice(units), c, most),
         Kind::Text => match as_text(units) {
@@ -173,7 +200,7 @@ fn at_char<C: Width>(answer: &mut Answer, kind: Kind, units: &[C], c: char, most
 }
 
 // Splits units at the characters of a list.
-fn at_set<C: Width>(
+fn at_set<C: ReportedUnit>(
     answer: &mut Answer,
     kind: Kind,
     units: &[C],
@@ -193,7 +220,7 @@ fn at_set<C: Width>(
     }
 }
 
-fn with_parts<C: Width>(
+fn with_parts<C: ReportedUnit>(
     memory: Memory<'_>,
     answer: &mut Answer,
     (kind, by, separator, most): Parts<'_>,
@@ -240,7 +267,12 @@ fn parsed(question: &str) -> Result<Parts<'_>, NoAnswer> {
 }
 
 /// Adds the answer to a question about the substrings of units of either width.
-pub fn asked<C: Width>(memory: Memory<'_>, answer: &mut Answer, units: &[C], question: &str) {
+pub fn asked<C: ReportedUnit>(
+    memory: Memory<'_>,
+    answer: &mut Answer,
+    units: &[C],
+    question: &str,
+) {
     match parsed(question) {
         Ok(parts) => with_parts(memory, answer, parts, units),
         Err(error) => answer.fail(error),

@@ -1,15 +1,20 @@
 //! New strings in an answer. Each has its units there, and before them a `?` if the call made another number of
 //! requests for memory than one, or than none for no units.
-use crate::groups::width::Width;
 use widestring::error::OutOfMemory;
 use widestring::ucstring::UCString;
 use widestring::ustring::UString;
 use widestring::utfstring::UtfString;
 use widestring_replay::parse::{Memory, NoAnswer};
-use widestring_replay::show::Answer;
+use widestring_replay::show::{Answer, ReportedUnit};
 use widestring_testing::Heap;
 
-fn add<C: Width>(memory: Memory<'_>, answer: &mut Answer, left: u64, units: &[C], is_made: bool) {
+fn add<C: ReportedUnit>(
+    memory: Memory<'_>,
+    answer: &mut Answer,
+    left: u64,
+    units: &[C],
+    is_made: bool,
+) {
     if memory.requests_since(left) != u64::from(is_made) {
         answer.word("?");
     }
@@ -17,7 +22,7 @@ fn add<C: Width>(memory: Memory<'_>, answer: &mut Answer, left: u64, units: &[C]
 }
 
 /// Adds a string of units that was made since `left` requests were still to be granted.
-pub fn units<C: Width>(
+pub fn units<C: ReportedUnit>(
     memory: Memory<'_>,
     answer: &mut Answer,
     left: u64,
@@ -30,7 +35,7 @@ pub fn units<C: Width>(
 }
 
 /// Adds a string of text that was made since `left` requests were still to be granted.
-pub fn text<C: Width>(
+pub fn text<C: ReportedUnit>(
     memory: Memory<'_>,
     answer: &mut Answer,
     left: u64,
@@ -44,7 +49,7 @@ pub fn text<C: Width>(
 
 /// Adds the contents of a C string that was made since `left` requests were still to be granted. It has at least its
 /// NUL, so it makes one request.
-pub fn contents<C: Width>(
+pub fn contents<C: ReportedUnit>(
     memory: Memory<'_>,
     answer: &mut Answer,
     left: u64,

@@ -4,12 +4,12 @@
 //!
 //! The separator is a view (`v`) or a character (`c`), of units alone, or any character of a list (`s`). The answer is
 //! how many substrings there are, and as further fields the units of each.
-use crate::groups::answers::substrings;
 use crate::groups::kinds::{self, Kind};
-use crate::groups::width::{Width, as_contents, as_text};
+use crate::groups::parts::substrings;
 use widestring::ustr::UStr;
+use widestring_replay::made::{as_contents, as_text};
 use widestring_replay::parse::{self, Memory, NoAnswer};
-use widestring_replay::show::Answer;
+use widestring_replay::show::{Answer, ReportedUnit};
 
 // The separators.
 #[derive(Clone, Copy)]
@@ -24,16 +24,16 @@ static SEPARATORS: [(&str, By); 3] = [("v", By::View), ("c", By::Char), ("s", By
 // A parsed question: the view, the separator's kind, and the separator.
 type Parts<'q> = (Kind, By, &'q str);
 
-fn by_view<C: Width>(answer: &mut Answer, view: UStr<'_, C>, needle: UStr<'_, C>) {
+fn by_view<C: ReportedUnit>(answer: &mut Answer, view: UStr<'_, C>, needle: UStr<'_, C>) {
     substrings!(answer, view.split_terminator(needle));
 }
 
-fn by_char<C: Width>(answer: &mut Answer, view: UStr<'_, C>, c: char) {
+fn by_char<C: ReportedUnit>(answer: &mut Answer, view: UStr<'_, C>, c: char) {
     substrings!(answer, view.split_terminator_char(c));
 }
 
 // Adds the substrings of units that a character of a list ends.
-fn by_set<C: Width>(answer: &mut Answer, kind: Kind, units: &[C], chars: &[char]) {
+fn by_set<C: ReportedUnit>(answer: &mut Answer, kind: Kind, units: &[C], chars: &[char]) {
     match kind {
         Kind::Units => substrings!(answer, UStr::from_slice(units).split_terminator_any(chars)),
         Kind::Text => match as_text(units) {
@@ -53,7 +53,7 @@ fn parsed(question: &str) -> Result<Parts<'_>, NoAnswer> {
     Ok((kind, parse::named(&SEPARATORS, by)?, separator))
 }
 
-fn with_parts<C: Width>(
+fn with_parts<C: ReportedUnit>(
     memory: Memory<'_>,
     answer: &mut Answer,
     (kind, by, separator): Parts<'_>,
@@ -78,7 +78,12 @@ fn with_parts<C: Width>(
 }
 
 /// Adds the answer to a question about the substrings of units of either width that a separator ends.
-pub fn asked<C: Width>(memory: Memory<'_>, answer: &mut Answer, units: &[C], question: &str) {
+pub fn asked<C: ReportedUnit>(
+    memory: Memory<'_>,
+    answer: &mut Answer,
+    units: &[C],
+    question: &str,
+) {
     match parsed(question) {
         Ok(parts) => with_parts(memory, answer, parts, units),
         Err(error) => answer.fail(error),

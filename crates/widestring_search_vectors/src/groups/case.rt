@@ -9,15 +9,15 @@
 //!   `>`.
 use crate::groups::kinds::{self, Kind};
 use crate::groups::made;
-use crate::groups::width::{Width, as_contents, as_text};
 use widestring::ucstr::UCStr;
 use widestring::ucstring::UCStrInUcstring;
 use widestring::ustr::UStr;
 use widestring::ustring::UStrInUstring;
 use widestring::utfstr::UtfStr;
 use widestring::utfstring::UtfStrInUtfstring;
+use widestring_replay::made::{as_contents, as_text};
 use widestring_replay::parse::{self, Memory, NoAnswer};
-use widestring_replay::show::Answer;
+use widestring_replay::show::{Answer, ReportedUnit};
 
 // The calls.
 #[derive(Clone, Copy)]
@@ -37,7 +37,7 @@ static CALLS: [(&str, Call); 5] = [
     ("order", Call::Order),
 ];
 
-fn of_units<C: Width>(
+fn of_units<C: ReportedUnit>(
     memory: Memory<'_>,
     answer: &mut Answer,
     call: Call,
@@ -54,7 +54,7 @@ fn of_units<C: Width>(
     }
 }
 
-fn of_text<C: Width>(
+fn of_text<C: ReportedUnit>(
     memory: Memory<'_>,
     answer: &mut Answer,
     call: Call,
@@ -71,7 +71,7 @@ fn of_text<C: Width>(
     }
 }
 
-fn of_contents<C: Width>(
+fn of_contents<C: ReportedUnit>(
     memory: Memory<'_>,
     answer: &mut Answer,
     call: Call,
@@ -89,7 +89,7 @@ fn of_contents<C: Width>(
 }
 
 // Makes a call of views of this kind of two lists. For C strings both end with a NUL.
-fn of_kind<C: Width>(
+fn of_kind<C: ReportedUnit>(
     memory: Memory<'_>,
     answer: &mut Answer,
     kind: Kind,
@@ -120,7 +120,7 @@ fn parsed(question: &str) -> Result<(Kind, Call, &str), NoAnswer> {
     Ok((kind, parse::named(&CALLS, call)?, list))
 }
 
-fn with_list<C: Width>(
+fn with_list<C: ReportedUnit>(
     memory: Memory<'_>,
     answer: &mut Answer,
     (kind, call, list): (Kind, Call, &str),
@@ -133,7 +133,12 @@ fn with_list<C: Width>(
 }
 
 /// Adds the answer to a question about ASCII in units of either width.
-pub fn asked<C: Width>(memory: Memory<'_>, answer: &mut Answer, units: &[C], question: &str) {
+pub fn asked<C: ReportedUnit>(
+    memory: Memory<'_>,
+    answer: &mut Answer,
+    units: &[C],
+    question: &str,
+) {
     match parsed(question) {
         Ok(parsed) => with_list(memory, answer, parsed, units),
         Err(error) => answer.fail(error),

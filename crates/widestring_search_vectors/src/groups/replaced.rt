@@ -7,7 +7,6 @@
 //! the new string, without a NUL. It makes one request for memory, and none if it has no units and needs no NUL; else
 //! the answer has a `?`.
 use crate::groups::made;
-use crate::groups::width::{Width, as_contents, as_text};
 use widestring::error::OutOfMemory;
 use widestring::replace::{UCStrReplace, UStrReplace, UtfStrReplace};
 use widestring::ucstr::UCStr;
@@ -16,8 +15,9 @@ use widestring::ustr::UStr;
 use widestring::ustring::{UStrInUstring, UString};
 use widestring::utfstr::UtfStr;
 use widestring::utfstring::{UtfStrInUtfstring, UtfString};
+use widestring_replay::made::{as_contents, as_text};
 use widestring_replay::parse::{self, Memory, NoAnswer};
-use widestring_replay::show::Answer;
+use widestring_replay::show::{Answer, ReportedUnit};
 use widestring_testing::Heap;
 
 // The needles.
@@ -48,7 +48,7 @@ enum How {
 type Parts<'q> = (Kind, &'q str, &'q str, How);
 
 // Returns a copy of the units in which occurrences are replaced in place, if the lengths are equal.
-fn copied_units<'h, C: Width>(
+fn copied_units<'h, C: ReportedUnit>(
     heap: &'h Heap,
     view: UStr<'_, C>,
     needle: UStr<'_, C>,
@@ -62,7 +62,7 @@ fn copied_units<'h, C: Width>(
 }
 
 // Returns a copy of the text in which occurrences are replaced in place, if the lengths are equal.
-fn copied_text<'h, C: Width>(
+fn copied_text<'h, C: ReportedUnit>(
     heap: &'h Heap,
     text: UtfStr<'_, C>,
     needle: UtfStr<'_, C>,
@@ -76,7 +76,7 @@ fn copied_text<'h, C: Width>(
 }
 
 // Returns a copy of the C string in which occurrences are replaced in place, if the lengths are equal.
-fn copied_contents<'h, C: Width>(
+fn copied_contents<'h, C: ReportedUnit>(
     heap: &'h Heap,
     view: UCStr<'_, C>,
     needle: UCStr<'_, C>,
@@ -89,7 +89,7 @@ fn copied_contents<'h, C: Width>(
     Ok(string)
 }
 
-fn in_units<C: Width>(
+fn in_units<C: ReportedUnit>(
     memory: Memory<'_>,
     answer: &mut Answer,
     view: UStr<'_, C>,
@@ -106,7 +106,7 @@ fn in_units<C: Width>(
     made::units(memory, answer, left, made);
 }
 
-fn in_text<C: Width>(
+fn in_text<C: ReportedUnit>(
     memory: Memory<'_>,
     answer: &mut Answer,
     text: UtfStr<'_, C>,
@@ -123,7 +123,7 @@ fn in_text<C: Width>(
     made::text(memory, answer, left, made);
 }
 
-fn in_contents<C: Width>(
+fn in_contents<C: ReportedUnit>(
     memory: Memory<'_>,
     answer: &mut Answer,
     view: UCStr<'_, C>,
@@ -140,7 +140,7 @@ fn in_contents<C: Width>(
     made::contents(memory, answer, left, made);
 }
 
-fn char_in_text<C: Width>(
+fn char_in_text<C: ReportedUnit>(
     memory: Memory<'_>,
     answer: &mut Answer,
     text: UtfStr<'_, C>,
@@ -157,7 +157,7 @@ fn char_in_text<C: Width>(
 }
 
 // Replaces a text, any units, or the contents of a C string.
-fn replaced<C: Width>(
+fn replaced<C: ReportedUnit>(
     memory: Memory<'_>,
     answer: &mut Answer,
     kind: Kind,
@@ -186,7 +186,7 @@ fn replaced<C: Width>(
     }
 }
 
-fn char_replaced<C: Width>(
+fn char_replaced<C: ReportedUnit>(
     memory: Memory<'_>,
     answer: &mut Answer,
     units: &[C],
@@ -200,7 +200,7 @@ fn char_replaced<C: Width>(
     }
 }
 
-fn with_needle<C: Width>(
+fn with_needle<C: ReportedUnit>(
     memory: Memory<'_>,
     answer: &mut Answer,
     (kind, needle, _, how): Parts<'_>,
@@ -234,7 +234,12 @@ fn parsed(question: &str) -> Result<Parts<'_>, NoAnswer> {
     Ok((parse::named(&KINDS, kind)?, needle, with, way_of(word)?))
 }
 
-fn with_parts<C: Width>(memory: Memory<'_>, answer: &mut Answer, parts: Parts<'_>, units: &[C]) {
+fn with_parts<C: ReportedUnit>(
+    memory: Memory<'_>,
+    answer: &mut Answer,
+    parts: Parts<'_>,
+    units: &[C],
+) {
     match parse::list::<C>(memory.alloc, parts.2) {
         Ok(with) => with_needle(memory, answer, parts, units, &with),
         Err(error) => answer.fail(error),
@@ -242,7 +247,12 @@ fn with_parts<C: Width>(memory: Memory<'_>, answer: &mut Answer, parts: Parts<'_
 }
 
 /// Adds the answer to a question about replacements in units of either width.
-pub fn asked<C: Width>(memory: Memory<'_>, answer: &mut Answer, units: &[C], question: &str) {
+pub fn asked<C: ReportedUnit>(
+    memory: Memory<'_>,
+    answer: &mut Answer,
+    units: &[C],
+    question: &str,
+) {
     match parsed(question) {
         Ok(parts) => with_parts(memory, answer, parts, units),
         Err(error) => answer.fail(error),

@@ -3,14 +3,14 @@
 //!
 //! The needle is a view of the same kind (`v`), or a character (`c`). The answer is how many matches there are, and as
 //! further fields the offset and the units of each, and then the units of each once more.
-use crate::groups::answers::substrings;
 use crate::groups::kinds::{self, Kind};
-use crate::groups::width::{Width, as_contents, as_text};
+use crate::groups::parts::substrings;
 use widestring::ucstr::UCStr;
 use widestring::ustr::UStr;
 use widestring::utfstr::UtfStr;
+use widestring_replay::made::{as_contents, as_text};
 use widestring_replay::parse::{self, Memory, NoAnswer};
-use widestring_replay::show::Answer;
+use widestring_replay::show::{Answer, ReportedUnit};
 
 #[derive(Clone, Copy)]
 enum By {
@@ -34,31 +34,35 @@ macro_rules! matched {
     }};
 }
 
-fn units_in_units<C: Width>(answer: &mut Answer, view: UStr<'_, C>, needle: UStr<'_, C>) {
+fn units_in_units<C: ReportedUnit>(answer: &mut Answer, view: UStr<'_, C>, needle: UStr<'_, C>) {
     matched!(answer, view.match_indices(needle), view.matches(needle));
 }
 
-fn char_in_units<C: Width>(answer: &mut Answer, view: UStr<'_, C>, c: char) {
+fn char_in_units<C: ReportedUnit>(answer: &mut Answer, view: UStr<'_, C>, c: char) {
     matched!(answer, view.match_indices_char(c), view.matches_char(c));
 }
 
-fn contents_in_contents<C: Width>(answer: &mut Answer, view: UCStr<'_, C>, needle: UCStr<'_, C>) {
+fn contents_in_contents<C: ReportedUnit>(
+    answer: &mut Answer,
+    view: UCStr<'_, C>,
+    needle: UCStr<'_, C>,
+) {
     matched!(answer, view.match_indices(needle), view.matches(needle));
 }
 
-fn char_in_contents<C: Width>(answer: &mut Answer, view: UCStr<'_, C>, c: char) {
+fn char_in_contents<C: ReportedUnit>(answer: &mut Answer, view: UCStr<'_, C>, c: char) {
     matched!(answer, view.match_indices_char(c), view.matches_char(c));
 }
 
-fn text_in_text<C: Width>(answer: &mut Answer, text: UtfStr<'_, C>, needle: UtfStr<'_, C>) {
+fn text_in_text<C: ReportedUnit>(answer: &mut Answer, text: UtfStr<'_, C>, needle: UtfStr<'_, C>) {
     matched!(answer, text.match_indices(needle), text.matches(needle));
 }
 
-fn char_in_text<C: Width>(answer: &mut Answer, text: UtfStr<'_, C>, c: char) {
+fn char_in_text<C: ReportedUnit>(answer: &mut Answer, text: UtfStr<'_, C>, c: char) {
     matched!(answer, text.match_indices_char(c), text.matches_char(c));
 }
 
-fn of_view<C: Width>(answer: &mut Answer, kind: Kind, units: &[C], needle: &[C]) {
+fn of_view<C: ReportedUnit>(answer: &mut Answer, kind: Kind, units: &[C], needle: &[C]) {
     match kind {
         Kind::Units => units_in_units(answer, UStr::from_slice(units), UStr::from_slice(needle)),
         Kind::Text => match (as_text(units), as_text(needle)) {
@@ -72,7 +76,7 @@ fn of_view<C: Width>(answer: &mut Answer, kind: Kind, units: &[C], needle: &[C])
     }
 }
 
-fn of_char<C: Width>(answer: &mut Answer, kind: Kind, units: &[C], c: char) {
+fn of_char<C: ReportedUnit>(answer: &mut Answer, kind: Kind, units: &[C], c: char) {
     match kind {
         Kind::Units => char_in_units(answer, UStr::from_slice(units), c),
         Kind::Text => match as_text(units) {
@@ -92,7 +96,7 @@ fn parsed(question: &str) -> Result<(Kind, By, &str), NoAnswer> {
     Ok((kind, parse::named(&NEEDLES, by)?, needle))
 }
 
-fn with_needle<C: Width>(
+fn with_needle<C: ReportedUnit>(
     memory: Memory<'_>,
     answer: &mut Answer,
     (kind, by, needle): (Kind, By, &str),
@@ -111,7 +115,12 @@ fn with_needle<C: Width>(
 }
 
 /// Adds the answer to a question about the matches of a needle in units of either width.
-pub fn asked<C: Width>(memory: Memory<'_>, answer: &mut Answer, units: &[C], question: &str) {
+pub fn asked<C: ReportedUnit>(
+    memory: Memory<'_>,
+    answer: &mut Answer,
+    units: &[C],
+    question: &str,
+) {
     match parsed(question) {
         Ok(parts) => with_needle(memory, answer, parts, units),
         Err(error) => answer.fail(error),

@@ -6,13 +6,13 @@
 //! of the needle, or a `-` if there is none. The calls for slices must return the same as those of a view of units,
 //! else there is no answer.
 use crate::groups::kinds::{self, Kind};
-use crate::groups::width::{Width, as_contents, as_text};
 use widestring::search;
 use widestring::ucstr::UCStr;
 use widestring::ustr::UStr;
 use widestring::utfstr::UtfStr;
+use widestring_replay::made::{as_contents, as_text};
 use widestring_replay::parse::{self, Memory, NoAnswer};
-use widestring_replay::show::Answer;
+use widestring_replay::show::{Answer, ReportedUnit};
 
 macro_rules! sought {
     ($answer:expr, $view:expr, $needle:expr) => {{
@@ -23,16 +23,16 @@ macro_rules! sought {
     }};
 }
 
-fn in_text<C: Width>(answer: &mut Answer, text: UtfStr<'_, C>, needle: UtfStr<'_, C>) {
+fn in_text<C: ReportedUnit>(answer: &mut Answer, text: UtfStr<'_, C>, needle: UtfStr<'_, C>) {
     sought!(answer, text, needle);
 }
 
-fn in_contents<C: Width>(answer: &mut Answer, view: UCStr<'_, C>, needle: UCStr<'_, C>) {
+fn in_contents<C: ReportedUnit>(answer: &mut Answer, view: UCStr<'_, C>, needle: UCStr<'_, C>) {
     sought!(answer, view, needle);
 }
 
 // Returns whether the calls for slices return the same as those of a view.
-fn agrees<C: Width>(view: UStr<'_, C>, needle: UStr<'_, C>) -> bool {
+fn agrees<C: ReportedUnit>(view: UStr<'_, C>, needle: UStr<'_, C>) -> bool {
     let (units, sought) = (view.as_slice(), needle.as_slice());
     (search::find_ignore_ascii_case(units, sought) == view.find_ignore_ascii_case(needle))
         & (search::starts_with_ignore_ascii_case(units, sought)
@@ -41,14 +41,14 @@ fn agrees<C: Width>(view: UStr<'_, C>, needle: UStr<'_, C>) -> bool {
             == view.ends_with_ignore_ascii_case(needle))
 }
 
-fn in_units<C: Width>(answer: &mut Answer, view: UStr<'_, C>, needle: UStr<'_, C>) {
+fn in_units<C: ReportedUnit>(answer: &mut Answer, view: UStr<'_, C>, needle: UStr<'_, C>) {
     sought!(answer, view, needle);
     if !agrees(view, needle) {
         answer.fail(NoAnswer::Unparsed);
     }
 }
 
-fn of_kind<C: Width>(answer: &mut Answer, kind: Kind, units: &[C], needle: &[C]) {
+fn of_kind<C: ReportedUnit>(answer: &mut Answer, kind: Kind, units: &[C], needle: &[C]) {
     match kind {
         Kind::Units => in_units(answer, UStr::from_slice(units), UStr::from_slice(needle)),
         Kind::Text => match (as_text(units), as_text(needle)) {
@@ -62,7 +62,7 @@ fn of_kind<C: Width>(answer: &mut Answer, kind: Kind, units: &[C], needle: &[C])
     }
 }
 
-fn with_needle<C: Width>(
+fn with_needle<C: ReportedUnit>(
     memory: Memory<'_>,
     answer: &mut Answer,
     units: &[C],
@@ -75,7 +75,12 @@ fn with_needle<C: Width>(
 }
 
 /// Adds the answer to a question about searches without regard to the case of ASCII letters in units of either width.
-pub fn asked<C: Width>(memory: Memory<'_>, answer: &mut Answer, units: &[C], question: &str) {
+pub fn asked<C: ReportedUnit>(
+    memory: Memory<'_>,
+    answer: &mut Answer,
+    units: &[C],
+    question: &str,
+) {
     match kinds::parsed(question) {
         Ok(parts) => with_needle(memory, answer, units, parts),
         Err(error) => answer.fail(error),

@@ -6,15 +6,15 @@
 //! The way is from the back (`r`), or from the front with the separators (`i`), which takes no limit. The separator is a
 //! view of the same kind (`v`), a character (`c`), or any character of a list (`s`). The answer is how many substrings
 //! there are, and as further fields the units of each.
-use crate::groups::answers::substrings;
 use crate::groups::kinds::{self, Kind};
+use crate::groups::parts::substrings;
 use crate::groups::splits::most_of;
-use crate::groups::width::{Width, as_contents, as_text};
 use widestring::ucstr::UCStr;
 use widestring::ustr::UStr;
 use widestring::utfstr::UtfStr;
+use widestring_replay::made::{as_contents, as_text};
 use widestring_replay::parse::{self, Memory, NoAnswer};
-use widestring_replay::show::Answer;
+use widestring_replay::show::{Answer, ReportedUnit};
 
 // The separators, and whether they are kept.
 #[derive(Clone, Copy)]
@@ -50,7 +50,7 @@ macro_rules! between {
     };
 }
 
-fn units_at_units<C: Width>(
+fn units_at_units<C: ReportedUnit>(
     answer: &mut Answer,
     view: UStr<'_, C>,
     needle: UStr<'_, C>,
@@ -62,22 +62,27 @@ fn units_at_units<C: Width>(
     }
 }
 
-fn units_at_char<C: Width>(answer: &mut Answer, view: UStr<'_, C>, c: char, most: Option<usize>) {
+fn units_at_char<C: ReportedUnit>(
+    answer: &mut Answer,
+    view: UStr<'_, C>,
+    c: char,
+    most: Option<usize>,
+) {
     match most {
         None => substrings!(answer, view.rsplit_char(c)),
         Some(count) => substrings!(answer, view.rsplitn_char(count, c)),
     }
 }
 
-fn units_after_units<C: Width>(answer: &mut Answer, view: UStr<'_, C>, needle: UStr<'_, C>) {
+fn units_after_units<C: ReportedUnit>(answer: &mut Answer, view: UStr<'_, C>, needle: UStr<'_, C>) {
     substrings!(answer, view.split_inclusive(needle));
 }
 
-fn units_after_char<C: Width>(answer: &mut Answer, view: UStr<'_, C>, c: char) {
+fn units_after_char<C: ReportedUnit>(answer: &mut Answer, view: UStr<'_, C>, c: char) {
     substrings!(answer, view.split_inclusive_char(c));
 }
 
-fn contents_at_contents<C: Width>(
+fn contents_at_contents<C: ReportedUnit>(
     answer: &mut Answer,
     view: UCStr<'_, C>,
     needle: UCStr<'_, C>,
@@ -89,7 +94,7 @@ fn contents_at_contents<C: Width>(
     }
 }
 
-fn contents_at_char<C: Width>(
+fn contents_at_char<C: ReportedUnit>(
     answer: &mut Answer,
     view: UCStr<'_, C>,
     c: char,
@@ -101,7 +106,7 @@ fn contents_at_char<C: Width>(
     }
 }
 
-fn contents_after_contents<C: Width>(
+fn contents_after_contents<C: ReportedUnit>(
     answer: &mut Answer,
     view: UCStr<'_, C>,
     needle: UCStr<'_, C>,
@@ -109,11 +114,11 @@ fn contents_after_contents<C: Width>(
     substrings!(answer, view.split_inclusive(needle));
 }
 
-fn contents_after_char<C: Width>(answer: &mut Answer, view: UCStr<'_, C>, c: char) {
+fn contents_after_char<C: ReportedUnit>(answer: &mut Answer, view: UCStr<'_, C>, c: char) {
     substrings!(answer, view.split_inclusive_char(c));
 }
 
-fn text_at_text<C: Width>(
+fn text_at_text<C: ReportedUnit>(
     answer: &mut Answer,
     text: UtfStr<'_, C>,
     needle: UtfStr<'_, C>,
@@ -125,23 +130,32 @@ fn text_at_text<C: Width>(
     }
 }
 
-fn text_at_char<C: Width>(answer: &mut Answer, text: UtfStr<'_, C>, c: char, most: Option<usize>) {
+fn text_at_char<C: ReportedUnit>(
+    answer: &mut Answer,
+    text: UtfStr<'_, C>,
+    c: char,
+    most: Option<usize>,
+) {
     match most {
         None => substrings!(answer, text.rsplit_char(c)),
         Some(count) => substrings!(answer, text.rsplitn_char(count, c)),
     }
 }
 
-fn text_after_text<C: Width>(answer: &mut Answer, text: UtfStr<'_, C>, needle: UtfStr<'_, C>) {
+fn text_after_text<C: ReportedUnit>(
+    answer: &mut Answer,
+    text: UtfStr<'_, C>,
+    needle: UtfStr<'_, C>,
+) {
     substrings!(answer, text.split_inclusive(needle));
 }
 
-fn text_after_char<C: Width>(answer: &mut Answer, text: UtfStr<'_, C>, c: char) {
+fn text_after_char<C: ReportedUnit>(answer: &mut Answer, text: UtfStr<'_, C>, c: char) {
     substrings!(answer, text.split_inclusive_char(c));
 }
 
 // Splits units from the back at a view of the same kind.
-fn at_view<C: Width>(
+fn at_view<C: ReportedUnit>(
     answer: &mut Answer,
     kind: Kind,
     units: &[C],
@@ -164,7 +178,13 @@ fn at_view<C: Width>(
     }
 }
 
-fn at_char<C: Width>(answer: &mut Answer, kind: Kind, units: &[C], c: char, most: Option<usize>) {
+fn at_char<C: ReportedUnit>(
+    answer: &mut Answer,
+    kind: Kind,
+    units: &[C],
+    c: char,
+    most: Option<usize>,
+) {
     match kind {
         Kind::Units => units_at_char(answer, UStr::from_slice(units), c, most),
         Kind::Text => match as_text(units) {
@@ -179,7 +199,7 @@ fn at_char<C: Width>(answer: &mut Answer, kind: Kind, units: &[C], c: char, most
 }
 
 // Splits units after a view of the same kind.
-fn after_view<C: Width>(answer: &mut Answer, kind: Kind, units: &[C], needle: &[C]) {
+fn after_view<C: ReportedUnit>(answer: &mut Answer, kind: Kind, units: &[C], needle: &[C]) {
     match kind {
         Kind::Units => {
             units_after_units(answer, UStr::from_slice(units), UStr::from_slice(needle))
@@ -195,7 +215,7 @@ fn after_view<C: Width>(answer: &mut Answer, kind: Kind, units: &[C], needle: &[
     }
 }
 
-fn after_char<C: Width>(answer: &mut Answer, kind: Kind, units: &[C], c: char) {
+fn after_char<C: ReportedUnit>(answer: &mut Answer, kind: Kind, units: &[C], c: char) {
     match kind {
         Kind::Units => units_after_char(answer, UStr::from_slice(units), c),
         Kind::Text => match as_text(units) {
@@ -210,7 +230,7 @@ fn after_char<C: Width>(answer: &mut Answer, kind: Kind, units: &[C], c: char) {
 }
 
 // Splits units from the back at the characters of a list, or after them.
-fn with_set<C: Width>(
+fn with_set<C: ReportedUnit>(
     answer: &mut Answer,
     (kind, by, _, most): Parts<'_>,
     units: &[C],
@@ -229,7 +249,7 @@ fn with_set<C: Width>(
     }
 }
 
-fn with_view<C: Width>(
+fn with_view<C: ReportedUnit>(
     answer: &mut Answer,
     (kind, by, _, most): Parts<'_>,
     units: &[C],
@@ -241,14 +261,24 @@ fn with_view<C: Width>(
     }
 }
 
-fn with_char<C: Width>(answer: &mut Answer, (kind, by, _, most): Parts<'_>, units: &[C], c: char) {
+fn with_char<C: ReportedUnit>(
+    answer: &mut Answer,
+    (kind, by, _, most): Parts<'_>,
+    units: &[C],
+    c: char,
+) {
     match by {
         By::KeptChar => after_char(answer, kind, units, c),
         _ => at_char(answer, kind, units, c, most),
     }
 }
 
-fn with_parts<C: Width>(memory: Memory<'_>, answer: &mut Answer, parts: Parts<'_>, units: &[C]) {
+fn with_parts<C: ReportedUnit>(
+    memory: Memory<'_>,
+    answer: &mut Answer,
+    parts: Parts<'_>,
+    units: &[C],
+) {
     match parts.1 {
         By::View | By::KeptView => match parse::list::<C>(memory.alloc, parts.2) {
             Ok(needle) => with_view(answer, parts, units, &needle),
@@ -278,7 +308,12 @@ fn parsed(question: &str) -> Result<Parts<'_>, NoAnswer> {
 }
 
 /// Adds the answer to a question about the substrings of units of either width from the back, or with separators.
-pub fn asked<C: Width>(memory: Memory<'_>, answer: &mut Answer, units: &[C], question: &str) {
+pub fn asked<C: ReportedUnit>(
+    memory: Memory<'_>,
+    answer: &mut Answer,
+    units: &[C],
+    question: &str,
+) {
     match parsed(question) {
         Ok(parts) => with_parts(memory, answer, parts, units),
         Err(error) => answer.fail(error),

@@ -9,14 +9,13 @@
 //! the units, those of C strings must return the same, else there is no answer. If units and needle are both well
 //! formed, there follow the first two fields for the text, the lengths of the substrings that the character splits it
 //! into, and the boundaries around the offset.
-use crate::groups::texts::c_string;
-use crate::groups::width::as_text;
 use std::alloc::Global;
 use widestring::search;
 use widestring::ucstr::UCStr;
 use widestring::unit::first_nul;
 use widestring::ustr::UStr;
 use widestring::utfstr::UtfStr;
+use widestring_replay::made::{as_text, c_string_of};
 use widestring_replay::parse::{self, NoAnswer};
 use widestring_replay::show::{Answer, ReportedUnit};
 
@@ -216,7 +215,7 @@ fn part_agrees<C: ReportedUnit>(
     c: char,
     found: &str,
 ) -> Result<bool, NoAnswer> {
-    match c_string(alloc, part) {
+    match c_string_of(alloc, part) {
         Ok(part) => contents_agree(alloc, view, part.as_ucstr(), c, found),
         Err(error) => Err(error),
     }
@@ -236,7 +235,7 @@ fn all_agree<C: ReportedUnit>(
     if first_nul(units).is_some() || first_nul(part).is_some() {
         return Ok(true);
     }
-    match c_string(alloc, units) {
+    match c_string_of(alloc, units) {
         Ok(text) => part_agrees(alloc, text.as_ucstr(), part, c, found),
         Err(error) => Err(error),
     }

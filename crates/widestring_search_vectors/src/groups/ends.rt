@@ -7,11 +7,11 @@
 //! or they are the words (`w`); `m` is for the matches of a character. The answer has the units that each call returns,
 //! after the offset of a match, or a `-`, each of them a field.
 use crate::groups::kinds::{self, Kind};
-use crate::groups::width::{Width, as_contents, as_text};
 use widestring::iter::End;
 use widestring::ustr::UStr;
 use widestring::utfstr::UtfStr;
 use widestring_replay::asked;
+use widestring_replay::made::{as_contents, as_text};
 use widestring_replay::parse::{self, Memory, NoAnswer};
 use widestring_replay::show::{Answer, ReportedUnit};
 
@@ -106,7 +106,7 @@ macro_rules! between {
     };
 }
 
-fn of_kind<C: Width>(
+fn of_kind<C: ReportedUnit>(
     answer: &mut Answer,
     units: &[C],
     (kind, by): (Kind, By),
@@ -126,14 +126,19 @@ fn of_kind<C: Width>(
     }
 }
 
-fn at_unit<C: Width>(answer: &mut Answer, units: &[C], unit: Result<C, NoAnswer>, calls: &[End]) {
+fn at_unit<C: ReportedUnit>(
+    answer: &mut Answer,
+    units: &[C],
+    unit: Result<C, NoAnswer>,
+    calls: &[End],
+) {
     match unit {
         Ok(unit) => called(answer, UStr::from_slice(units).split_unit(unit), calls),
         Err(error) => answer.fail(error),
     }
 }
 
-fn with_calls<C: Width>(
+fn with_calls<C: ReportedUnit>(
     memory: Memory<'_>,
     answer: &mut Answer,
     units: &[C],
@@ -156,7 +161,12 @@ fn parsed(question: &str) -> Result<Parts<'_>, NoAnswer> {
     Ok((kind, parse::named(&ITERATORS, by)?, separator, calls))
 }
 
-fn with_parts<C: Width>(memory: Memory<'_>, answer: &mut Answer, units: &[C], parts: Parts<'_>) {
+fn with_parts<C: ReportedUnit>(
+    memory: Memory<'_>,
+    answer: &mut Answer,
+    units: &[C],
+    parts: Parts<'_>,
+) {
     match parse::calls(memory.alloc, parts.3) {
         Ok(calls) => with_calls(memory, answer, units, parts, &calls),
         Err(error) => answer.fail(error),
@@ -164,7 +174,12 @@ fn with_parts<C: Width>(memory: Memory<'_>, answer: &mut Answer, units: &[C], pa
 }
 
 /// Adds the answer to a question about the substrings of units of either width, from both ends.
-pub fn asked<C: Width>(memory: Memory<'_>, answer: &mut Answer, units: &[C], question: &str) {
+pub fn asked<C: ReportedUnit>(
+    memory: Memory<'_>,
+    answer: &mut Answer,
+    units: &[C],
+    question: &str,
+) {
     match parsed(question) {
         Ok(parts) => with_parts(memory, answer, units, parts),
         Err(error) => answer.fail(error),
