@@ -3,11 +3,20 @@ characters."""
 
 import os
 
-NAMES = ["string", "indexOf", "isWellFormed", "toWellFormed", "codePointAt", "slice", "insert", "remove", "replace"]
-USAGE = b"usage: script FILE\n"
+NAMES = ["string", "length", "indexOf", "isWellFormed", "toWellFormed", "codePointAt", "slice", "insert", "remove", "replace"]
+USAGE = b"script: wrong arguments\nusage: script FILE..\n"
+JSON_ESCAPES = {'"': '"', "\\": "\\", "/": "/", "b": "\b", "f": "\f", "n": "\n", "r": "\r", "t": "\t"}
+# What is written for characters that would change what a terminal shows.
+TERMINAL = {"\n": "\\n", "\r": "\\r", "\t": "\\t", "\0": "\\0"}
 ESCAPES = {"\0": "\\0", "\t": "\\t", "\r": "\\r", "\n": "\\n", "'": "\\'", '"': '\\"', "\\": "\\\\"}
 # Characters of random inputs that are not printed as they are.
 HIDDEN = "\x7f\u00ad\u0301\u200b"
+
+
+def safe(text):
+    """Returns a text as it is written where a terminal may show it."""
+    hidden = lambda c: ord(c) < 32 or 0x7F <= ord(c) < 0xA0 or c in "\u2028\u2029\u202a\u202b\u202c\u202d\u202e\u2066\u2067\u2068\u2069\ufeff"
+    return "".join(TERMINAL.get(c) or (f"\\u{{{ord(c):x}}}" if hidden(c) else c) for c in text)
 
 
 class Damage(Exception):
@@ -35,7 +44,8 @@ def items_of(units):
 
 
 def escaped(char):
-    return ESCAPES.get(char) or (f"\\u{{{ord(char):x}}}" if char in HIDDEN else char)
+    is_hidden = char in HIDDEN or ord(char) < 32 or 0x7F <= ord(char) < 0xA0 or char == "\u202e"
+    return ESCAPES.get(char) or (f"\\u{{{ord(char):x}}}" if is_hidden else char)
 
 
 def shown(units):
@@ -62,40 +72,75 @@ class Line:
         return word
 
     def offset(self):
+        """Returns a number, or None if the line has ended."""
+        if not self.rest:
+            return None
         before = self.rest
         word = self.word()
-        if not word or any(digit not in "0123456789" for digit in word):
+        digits = word[1:] if word.startswith("-") else word
+        if not digits or any(digit not in "0123456789" for digit in digits):
             self.rest = before
             self.fail("no place")
         return int(word)
+
+    def place(self):
+        """Returns a number that is not negative."""
+        before = self.rest
+        number = self.offset()
+        if number is None or number < 0:
+            self.rest = before
+            self.fail("no place")
+        return number
 
     def end(self):
         if self.rest:
             self.fail("too many words")
 
     def escaped_units(self):
-        units, text, at = [], self.rest, 0
+        """Returns the units of a text: in quotes, or up to the end of the line."""
+        in_quotes = self.rest.startswith('"')
+        units, text, at = [], self.rest, int(in_quotes)
         while at < len(text):
-            if text.startswith("\\u", at):
-                digits = text[at + 2 : at + 6]
-                if len(digits) < 4 or any(digit not in "0123456789abcdefABCDEF" for digit in digits):
-                    self.rest = text[at:]
-                    self.fail("bad escape")
-                units.append(int(digits, 16))
-                at += 6
-            else:
+            if text[at] == '"' and in_quotes:
+                rest = text[at + 1 :]
+                self.rest = rest[1:] if rest.startswith(" ") else rest
+                return units
+            if text[at] != "\\":
                 units += units_of(text[at])
                 at += 1
+                continue
+            letter = text[at + 1 : at + 2]
+            digits = text[at + 2 : at + 6]
+            if letter == "u" and len(digits) == 4 and all(digit in "0123456789abcdefABCDEF" for digit in digits):
+                units.append(int(digits, 16))
+                at += 6
+            elif letter in JSON_ESCAPES and letter:
+                units += units_of(JSON_ESCAPES[letter])
+                at += 2
+            else:
+                self.rest = text[at:]
+                self.fail("bad escape")
+        self.rest = ""
+        if in_quotes:
+            self.fail("no quote at the end")
         return units
+
+    def edit_text(self):
+        before = self.rest
+        items = items_of(self.escaped_units())
+        if any(isinstance(item, int) for item in items):
+            self.rest = before
+            self.fail("half of a pair in an edit")
+        self.end()
+        return "".join(items)
 
 
 def edit(units, name, line):
     """Returns the new units, and the result."""
-    first = line.offset()
-    second = line.offset() if name == "replace" else first
-    text = line.rest
-    if name == "remove":
-        line.end()
+    first = line.place()
+    second = line.place() if name == "replace" else first
+    text = line.edit_text() if name != "remove" else ""
+    line.end()
     items = items_of(units)
     at = 0
     for item in items:
@@ -125,22 +170,29 @@ def answer(units, text):
         return edit(units, name, line)
     if name == "string":
         new = line.escaped_units()
+        line.end()
         return new, shown(new)
+    if name == "length":
+        line.end()
+        return units, str(len(units))
     if name == "indexOf":
         needle = line.escaped_units()
-        offsets = [at for at in range(len(units) + 1) if units[at : at + len(needle)] == needle]
+        start = min(max(line.offset() or 0, 0), len(units))
+        line.end()
+        offsets = [at for at in range(start, len(units) + 1) if units[at : at + len(needle)] == needle]
         return units, str(offsets[0] if offsets else -1)
     if name == "codePointAt":
-        at = line.offset()
+        at = line.offset() or 0
         line.end()
-        items = items_of(units[at:])
+        items = items_of(units[at:]) if at >= 0 else []
         if not items:
             return units, "undefined"
         return units, f"U+{items[0] if isinstance(items[0], int) else ord(items[0]):04X}"
     if name == "slice":
-        start, end = line.offset(), line.offset()
+        start = line.offset() or 0
+        end = line.offset()
         line.end()
-        return units, shown(units[:end][start:])
+        return units, shown(units[start:end])
     line.end()
     items = items_of(units)
     if name == "isWellFormed":
@@ -152,6 +204,7 @@ def answer(units, text):
 def read(data):
     """Returns standard output, standard error and status."""
     units, output, reported = [], "", ""
+    data = data[3:] if data.startswith(b"\xef\xbb\xbf") else data
     for number, line in enumerate(data.split(b"\n"), 1):
         line = line[:-1] if line.endswith(b"\r") else line
         try:
@@ -168,7 +221,7 @@ def read(data):
             offset, what = damage.args
             result = f"{what} at unit {offset}"
             reported += f"line {number}, unit {offset}: {what}\n"
-        output += f"{text}: {result}\n"
+        output += f"{safe(text)}: {result}\n"
     return output.encode(), reported.encode(), 1 if reported else 0
 
 
@@ -190,7 +243,14 @@ FILES = [
     ("cuts that part a pair", "string a😀b\nslice 0 2\nslice 2 9\nslice 2 2\nslice 3 2\nslice 0 4\n".encode()),
     ("searches of units", "string a😀\\uDE00b\nindexOf 😀\nindexOf \\uDE00\nindexOf \\uDE00b\nindexOf c\nindexOf\n".encode()),
     ("faults and well-formed text", "string \\uDC00\\uD800😀\\uD800\ntoWellFormed\nisWellFormed\nstring \\uFFFD\nisWellFormed\n".encode()),
-    ("what is shown in escapes", "string '\"\\\t\0\x7f\u0301\u200b\nremove 0\nremove 0\nremove 0\nremove 0\n".encode()),
+    ("what is shown in escapes", "string '\"\\\\\t\0\x7f\u0301\u200b\nremove 0\nremove 0\nremove 0\nremove 0\n".encode()),
+    ("escapes of JSON", b'string \\"\\\\\\/\\b\\f\\n\\r\\t\nstring \\x\nstring \\\nlength\n'),
+    ("text in quotes", 'string "a \\" 😀" \nstring "a" b\nstring "a\nindexOf "😀" 1\nindexOf "a" 1\ninsert 0 "\\n"\n'.encode()),
+    ("arguments that are left out, and negative ones", b"string abcd\nslice\nslice -3\nslice -3 -1\nslice 1 -9\nslice -9 2\ncodePointAt\ncodePointAt -1\nindexOf \"d\" -1\nindexOf \"\" 9\nindexOf\nslice -99999999999999999999 99999999999999999999\n"),
+    ("the length in units", "length\nstring 😀\\uD83D\nlength\nlength 1\n".encode()),
+    ("half of a pair is no text of an edit", b"string ab\ninsert 0 \\uD83D\nreplace 0 1 \\uDE00x\ninsert 1 \\uD83D\\uDE00\nremove -1\n"),
+    ("a BOM at the beginning", b"\xef\xbb\xbfstring a\n\xef\xbb\xbflength\n"),
+    ("nothing reaches a terminal that would change it", "string \x1b[2J\u202e\x85\nlength\n\x1b]0;x\x07\n".encode()),
     ("no calls of such names", b"charAt 0\nisWellFormed x\ntoWellFormed x\ncodePointAt 0 x\nslice 0 1 x\nremove 0 x\n x\nIsWellFormed\n"),
     ("spaces at ends", b"isWellFormed \nstring \nstring  a\nslice 0 9 \ncodePointAt 1 \nremove 1 \ninsert 0 \n"),
     ("ends of lines", b"string a\r\nslice 0 9\r\r\n\r\n\nisWellFormed\r"),
@@ -198,7 +258,7 @@ FILES = [
     ("units before a fault of a line", "string é😀".encode() + b"\xc3\n" + "é😀 1\nstring é😀\\u\n".encode()),
 ]
 CHARACTERS = ["a", "b", "0", "e", "é", "😀", "深", "\ufffd", "'", '"', "\\", "\t", "\0", *HIDDEN, "\r"]
-FRAGMENTS = ["\\uD83D", "\\uDE00", "\\ud83c", "\\u00e9", "\\u0041", "\\u12", "\\u+123", "\\u", "\\u00g1", " ", "aa", "x😀"]
+FRAGMENTS = ['"', "\\n", "\\\\", "\\/", '\\"', "\\uD83D", "\\uDE00", "\\ud83c", "\\u00e9", "\\u0041", "\\u12", "\\u+123", "\\u", "\\u00g1", " ", "aa", "x😀"]
 WORDS = ["0", "1", "2", "3", "4", "9", "00", "99999999999999999999", "+1", "-1", "", "x", "1.5", "é"]
 
 
@@ -232,7 +292,7 @@ def random_file(random):
 
 def question(random, folder):
     if random.randrange(50) == 0:
-        return random.choice([[], ["calls", "calls"], ["a", "b", "c"]]), b"", USAGE, 2
+        return [], b"", USAGE, 2
     data = random_file(random)
     with open(os.path.join(folder, "calls"), "wb") as file:
         file.write(data)

@@ -95,9 +95,14 @@ impl fmt::Display for NoForm {
         match self.0 {
             Some(scheme) => {
                 let name = name_of(scheme);
-                write!(f, "no BOM, and it looks like {name}, which --form {name} reads")
+                write!(
+                    f,
+                    "no BOM, and it looks like {name}, which --form {name} reads"
+                )
             }
-            None => f.write_str("no BOM, and it looks like no form of Unicode; --form FORM says what it is"),
+            None => f.write_str(
+                "no BOM, and it looks like no form of Unicode; --form FORM says what it is",
+            ),
         }
     }
 }
@@ -108,11 +113,7 @@ impl fmt::Display for NoForm {
 /// # Errors
 ///
 /// What the file looks like.
-pub fn form_of(
-    bytes: &[u8],
-    asked: Option<Form>,
-    usual: Scheme,
-) -> Result<(Form, usize), NoForm>
+pub fn form_of(bytes: &[u8], asked: Option<Form>, usual: Scheme) -> Result<(Form, usize), NoForm>
     ensures asked { (form : Form) → asked ≡ Some form → IfOk result (λ found. found.0 ≡ form) }
 {
     let by_bom = scheme_by_bom(bytes);

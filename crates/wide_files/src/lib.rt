@@ -17,5 +17,5 @@ pub use document::{BadBytes, Document};
 pub use form::{Form, NoForm, form_named, form_of, name_of, scheme_named};
 pub use outcome::{Outcome, Place};
 pub use program::{Program, run};
-pub use shown::{Quoted, Shown};
+pub use shown::{Quoted, Shown, ShownText};
 pub use words::{OptionWord, Refusal, Words, words_of};

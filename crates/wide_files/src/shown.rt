@@ -49,6 +49,19 @@ impl fmt::Display for Shown<'_> {
     }
 }
 
+/// A text in UTF-8, as [`Shown`] has it.
+#[derive(Clone, Copy)]
+pub struct ShownText<'a>(pub &'a str);
+
+impl fmt::Display for ShownText<'_> {
+    fn fmt<W: fmt::Write>(&self, f: &mut fmt::Formatter<W>) -> fmt::Result {
+        for c in self.0.chars() {
+            put(f, c)?;
+        }
+        Ok(())
+    }
+}
+
 /// A text in quotes, as [`Shown`] has it, with a backslash before each quote and each backslash.
 #[derive(Clone, Copy)]
 pub struct Quoted<'a>(pub U16Str<'a>);
