@@ -9,7 +9,7 @@ use widestring::{U16Str, U16String};
 fn main(rt: HostRuntime) -> io::Result<ExitCode> {
     let mut args = env::args(&rt)?.skip(1);
     let (Some(path), Some(word)) = (args.next(), args.next()) else {
-        eprintln!(rt; "usage: lines FILE WORD")?;
+        eprintln!(rt; "usage: first FILE WORD")?;
         return Ok(ExitCode::from(2));
     };
     let bytes = fs::read(&rt, path)?;

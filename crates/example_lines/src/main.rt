@@ -70,7 +70,10 @@ impl Lines {
     fn put_offsets(&self, output: &mut String, line: U16Str<'_>) -> Result<(), AllocError> {
         let mut from = 0;
         let mut separator = "";
-        while let Some(offset) = self.find(line.get(from..).unwrap_or_default()) {
+        while let Some(rest) = line.get(from..) {
+            let Some(offset) = self.find(rest) else {
+                break;
+            };
             let at = from.saturating_add(offset);
             write!(output, "{separator}{at}")?;
             separator = ",";
