@@ -1,8 +1,9 @@
 //! The forms of files of text, and their names.
 
-ghost use Rattle.std.specs.Prelude.{◌≡◌, IfOk, IfSome, Some};
+ghost use Rattle.std.specs.Prelude.{◌≡◌, IfNone, IfOk, IfSome, Some};
 ghost use Rattle.wide_files.specs.Forms.{IsSameInAnyCase, name_of};
 ghost use Rattle.wide_files.specs.declared.form.Form.{Form};
+ghost use Rattle.wide_schemes.specs.declared.scheme.Scheme.{Scheme};
 
 use crate::beginning::{looks_like, scheme_by_bom};
 use crate::code_pages::CodePage;
@@ -17,18 +18,6 @@ pub enum Form {
     /// In a code page of Windows.
     Windows(CodePage),
 }
-
-// Every scheme.
-static SCHEMES: [Scheme; 8] = [
-    Scheme::Utf8,
-    Scheme::Utf16,
-    Scheme::Utf16Le,
-    Scheme::Utf16Be,
-    Scheme::Utf32,
-    Scheme::Utf32Le,
-    Scheme::Utf32Be,
-    Scheme::Wtf8,
-];
 
 // Every code page, and its name.
 static CODE_PAGES: [(&str, CodePage); 10] = [
@@ -60,16 +49,31 @@ pub fn name_of(scheme: Scheme) -> &'static str
     }
 }
 
+// Returns the scheme if this is its name, in letters of either case.
+fn if_named(scheme: Scheme, name: &str) -> Option<Scheme>
+    ensures named { IfSome result (λ found. (found ≡ scheme) × IsSameInAnyCase (name_of scheme) name.now) }
+    ensures none { IfNone result (¬ (IsSameInAnyCase (name_of scheme) name.now)) }
+{
+    if name_of(scheme).eq_ignore_ascii_case(name) {
+        Some(scheme)
+    } else {
+        None
+    }
+}
+
 /// Returns the scheme with this name, in letters of either case, or `None` if there is none.
 pub fn scheme_named(name: &str) -> Option<Scheme>
     ensures named { IfSome result (λ scheme. IsSameInAnyCase (name_of scheme) name.now) }
+    ensures none { IfNone result ((scheme : Scheme) → ¬ (IsSameInAnyCase (name_of scheme) name.now)) }
 {
-    for scheme in &SCHEMES {
-        if name_of(*scheme).eq_ignore_ascii_case(name) {
-            return Some(*scheme);
-        }
-    }
-    None
+    if_named(Scheme::Utf8, name)
+        .or(if_named(Scheme::Utf16, name))
+        .or(if_named(Scheme::Utf16Le, name))
+        .or(if_named(Scheme::Utf16Be, name))
+        .or(if_named(Scheme::Utf32, name))
+        .or(if_named(Scheme::Utf32Le, name))
+        .or(if_named(Scheme::Utf32Be, name))
+        .or(if_named(Scheme::Wtf8, name))
 }
 
 /// Returns the form with this name, in letters of either case, or `None` if there is none. A code page has a name such

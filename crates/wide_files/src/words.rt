@@ -45,11 +45,11 @@ pub enum Words<'a> {
     Refused(Refusal<'a>),
 }
 
-// Returns the index of the option with this name.
-fn index_of(options: &[OptionWord], name: &str) -> Option<usize> {
+// Returns the index of the option with this name, and whether it has a value.
+fn option_named(options: &[OptionWord], name: &str) -> Option<(usize, bool)> {
     for (index, option) in options.iter().enumerate() {
         if option.name == name {
-            return Some(index);
+            return Some((index, option.has_value));
         }
     }
     None
@@ -73,10 +73,10 @@ pub fn words_of<'a>(options: &[OptionWord], arguments: &'a [String]) -> Words<'a
     if !is_option(argument) {
         return Words::Rest(arguments);
     }
-    let Some(index) = index_of(options, argument) else {
+    let Some((index, has_value)) = option_named(options, argument) else {
         return Words::Refused(Refusal::UnknownOption(argument));
     };
-    if !options[index].has_value {
+    if !has_value {
         return Words::Option(index, argument, "", others);
     }
     match others {

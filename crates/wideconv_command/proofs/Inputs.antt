@@ -1,9 +1,12 @@
 -- What looking at a source with a beginning, and taking from it, leaves of it.
 use Rattle.std.proofs.Common.{◌≡◌, ◌==◌, ◌&&◌, nat_lt, ℕ, ◌+◌, ◌≤◌, Bool, true, false, Option, Some, None, List, [], ◌∷◌, ◌++◌, length, min, take, drop, refl, sym, ap, subst, ◌∙◌, arith, append_assoc, length-drop, length-take, take-add}
 use Rattle.std.proofs.lemmas.Bool.{eqb-true}
-use Rattle.std.proofs.lemmas.List.{take-append-drop, take_at, take_min}
+use Rattle.std.proofs.lemmas.List.{append-nil, take-append-drop, take_at, take_min}
 use Rattle.std.specs.Io.KnownBytes.{Consumes, IsAtEnd, Keeps}
+use Rattle.wide_files.specs.Boms.{scheme_by_bom}
+use Rattle.wide_schemes.specs.declared.scheme.Scheme.{Scheme}
 use Rattle.wideconv_command.specs.Inputs.{left_of}
+use Rattle.wideconv_command.specs.Texts.{OpensByBom}
 
 -- The first `n` bytes of the beginning were taken.
 first-taken : (head : List ℕ) (n : ℕ) (ended : Bool) (left : Option (List ℕ)) → Consumes (left_of head ended left) (left_of (drop n head) ended left) (take n head)
@@ -54,3 +57,27 @@ pub looked : (from end len n space : ℕ) (old new : List ℕ) (ended : Bool) (l
 looked from end len n space old new ended left left' start bound prefix fits over given at_end =
     subst (λ xs. Keeps (left_of (drop from (take end old)) false left) (left_of xs ended left')) (sym (head-after from end len n old new start bound prefix))
     (looked-at (drop from (take end old)) (take n (drop len new)) n space ended left left' (omega (arith, length-take n (drop len new), length-drop len new, fits)) over given at_end)
+
+-- What is consumed of what is kept is consumed.
+kept-consumes : (a b c : Option (List ℕ)) (xs : List ℕ) → Keeps a b → Consumes b c xs → Consumes a c xs
+kept-consumes None b c xs kept taken = tt
+kept-consumes (Some ys) None c xs kept taken = absurd kept
+kept-consumes (Some ys) (Some zs) None xs kept taken = absurd taken
+kept-consumes (Some ys) (Some zs) (Some ws) xs kept taken = sym kept ∙ taken
+
+-- The beginning is the first of the bytes that are left.
+all-taken : (head : List ℕ) (ended : Bool) (left : Option (List ℕ)) → Consumes (left_of head ended left) (left_of [] ended left) head
+all-taken head true left = sym (append-nil head)
+all-taken head false None = tt
+all-taken head false (Some ys) = refl
+
+-- A source was looked at, and of the BOM in its beginning the bytes were taken that the scheme would keep.
+pub opens : (before : Option (List ℕ)) (head rest : List ℕ) (ended : Bool) (left : Option (List ℕ)) (found : Scheme × ℕ) → Keeps before (left_of head ended left) → scheme_by_bom head ≡ Some found → rest ≡ drop found.1 head
+    → OpensByBom before (left_of rest ended left) found
+opens before head rest ended left found kept bom behind = record {
+  head = head;
+  bom = bom;
+  begins = (left_of [] ended left, kept-consumes before (left_of head ended left) (left_of [] ended left) head kept (all-taken head ended left));
+  taken = kept-consumes before (left_of head ended left) (left_of rest ended left) (take found.1 head) kept
+    (subst (λ xs. Consumes (left_of head ended left) (left_of xs ended left) (take found.1 head)) (sym behind) (first-taken head found.1 ended left));
+}

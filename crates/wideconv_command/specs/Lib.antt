@@ -1,5 +1,3 @@
-pub mod Boms
-pub mod Forms
 pub mod Inputs
 pub mod Outputs
 pub mod Requests

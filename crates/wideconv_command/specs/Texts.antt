@@ -1,5 +1,7 @@
 -- How converting a text ends.
-use Rattle.std.specs.Prelude.{◌≡◌, ℕ, ◌+◌, ◌^◌, ◌-◌, min, Bool, false, List, Option, Some, Result, Ok, Err, is_ok}
+use Rattle.std.specs.Prelude.{◌≡◌, ℕ, ◌+◌, ◌^◌, ◌-◌, min, take, Bool, true, false, List, Option, Some, None, Result, Ok, Err, is_ok}
+use Rattle.std.specs.Io.KnownBytes.{Consumes}
+use Rattle.wide_files.specs.Boms.{scheme_by_bom}
 use Rattle.wide_schemes.specs.declared.scheme.Scheme.{Scheme}
 use Rattle.wide_transcode.specs.Run.{Moves}
 use Rattle.wide_convert.specs.Converted.{EndsConverted}
@@ -46,11 +48,31 @@ pub record Converts (from : Scheme) (by : Conversion) (left left' held held' : O
 abbrev pub conversion_of : Request → Scheme → Conversion
 conversion_of request to = record { from = request.from; to = to; policy = request.policy; bom = request.bom }
 
--- If both forms are named, a text was converted as the request asks, from a source into a sink that held these bytes.
--- `has_ended` and `left` say what the source below has of its end and of its bytes.
+-- The bytes that are left begin with a BOM. It indicates a scheme, and those of its bytes were taken that the scheme would
+-- take for a character.
+pub record OpensByBom (left left' : Option (List ℕ)) (found : Scheme × ℕ) : Type 0 where
+  pub head : List ℕ
+  pub bom : scheme_by_bom head ≡ Some found
+  pub begins : (rest : Option (List ℕ)) × Consumes left rest head
+  pub taken : Consumes left left' (take found.1 head)
+
+-- A text was converted to its end from the scheme that its BOM indicates, with so many faults that were replaced.
+pub record ConvertsByBom (by : Conversion) (left left' held held' : Option (List ℕ)) (ended : Bool) (faults : ℕ) : Type 0 where
+  pub found : Scheme × ℕ
+  pub opened : Option (List ℕ)
+  pub by_bom : OpensByBom left opened found
+  pub bytes : List ℕ
+  pub written : List ℕ
+  pub moves : Moves opened left' held held' bytes written
+  pub ends : EndsText found.0 by found.1 (Ok faults) ended bytes written
+
+-- A text was converted as the request asks, from a source into a sink that held these bytes: if both forms are named,
+-- and, if all went well, also if the BOM decides. `has_ended` and `left` say what the source below has of its end and of
+-- its bytes.
 abbrev pub ConvertsBy : {S : Type 0} → (S → Bool) → (S → Option (List ℕ)) → Input S → Input S → Option (List ℕ) → Option (List ℕ) → Request → Bool → Type 0
 ConvertsBy has_ended left source source' held held' request is_well =
-    (from to : Scheme) → request.from ≡ Some from → request.to ≡ Some to → Converts from (conversion_of request to) (left_by has_ended left source) (left_by has_ended left source') held held' (has_taken_end source') is_well
+    ((from to : Scheme) → request.from ≡ Some from → request.to ≡ Some to → Converts from (conversion_of request to) (left_by has_ended left source) (left_by has_ended left source') held held' (has_taken_end source') is_well)
+    × ((to : Scheme) → request.from ≡ None → request.to ≡ Some to → is_well ≡ true → (faults : ℕ) × ConvertsByBom (conversion_of request to) (left_by has_ended left source) (left_by has_ended left source') held held' (has_taken_end source') faults)
 
 -- Whether all went well: it ended without an error and says so.
 abbrev pub went_well : Result Bool TextError → Bool

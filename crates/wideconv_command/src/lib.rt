@@ -1,10 +1,8 @@
 //! The program `wideconv`, over any devices: it converts texts between encoding schemes.
 #![tactic(auto)]
 
-mod bom;
 mod examining;
 mod files;
-mod forms;
 mod input;
 mod messages;
 mod output;
@@ -13,9 +11,7 @@ mod request;
 mod tally;
 mod text;
 
-pub use bom::{looks_like, scheme_by_bom};
 pub use examining::{Examined, examine};
-pub use forms::form_named;
 pub use input::Input;
 pub use messages::{FAILED, SUCCESS, USAGE, WRONG_USAGE, report};
 pub use output::Output;

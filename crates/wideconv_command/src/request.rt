@@ -3,8 +3,8 @@
 ghost use Rattle.std.specs.Prelude.{◌≤◌, length};
 ghost use Rattle.wideconv_command.specs.Requests.{IsWithin};
 
-use crate::forms::form_named;
 use std::fmt;
+use wide_files::scheme_named;
 use wide_forms::Policy;
 use wide_schemes::Scheme;
 
@@ -166,7 +166,7 @@ fn with_value<'a>(
             ..request
         });
     }
-    let Some(scheme) = form_named(value) else {
+    let Some(scheme) = scheme_named(value) else {
         return Err(Refusal::UnknownForm(value));
     };
     Ok(match word {

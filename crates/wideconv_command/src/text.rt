@@ -1,25 +1,24 @@
 //! Converts one text.
 
-ghost use Rattle.std.specs.Prelude.{◌≡◌, ℕ, List, Some, None, Ok, false, drop, IfOk};
+ghost use Rattle.std.specs.Prelude.{◌≡◌, ℕ, List, Some, None, Ok, false, IfOk};
 ghost use Rattle.wide_schemes.specs.declared.scheme.Scheme.{Scheme};
 ghost use Rattle.wide_transcode.specs.Run.{Moves};
-ghost use Rattle.wideconv_command.specs.Boms.{scheme_by_bom};
-ghost use Rattle.wideconv_command.specs.Inputs.{has_taken_end, head_of, left_by, source_of};
-ghost use Rattle.wideconv_command.specs.Texts.{EndsText, error_behind};
+ghost use Rattle.wideconv_command.specs.Inputs.{has_taken_end, left_by, source_of};
+ghost use Rattle.wideconv_command.specs.Texts.{ConvertsByBom, EndsText, OpensByBom, error_behind};
 
-use crate::bom::{looks_like, scheme_by_bom};
 use crate::input::Input;
 use std::fmt;
 use wide_bytes::{ByteSink, ByteSource};
 use wide_convert::{ConvertError, TextFault, convert};
+use wide_files::{looks_like, name_of, scheme_by_bom};
 use wide_forms::Policy;
 use wide_schemes::Scheme;
 
 /// Why a text was not converted to its end.
 #[derive(Clone, Copy)]
 pub enum TextError {
-    /// It has no BOM, and nothing says which scheme it has. It looks like this form.
-    NoBom(&'static str),
+    /// It has no BOM, and nothing says which scheme it has. It looks like this one, or like no form of Unicode.
+    NoBom(Option<Scheme>),
     /// The conversion stopped.
     Stopped(ConvertError),
 }
@@ -27,7 +26,8 @@ pub enum TextError {
 impl fmt::Display for TextError {
     fn fmt<W: fmt::Write>(&self, f: &mut fmt::Formatter<W>) -> fmt::Result {
         match self {
-            TextError::NoBom(form) => {
+            TextError::NoBom(scheme) => {
+                let form = scheme.map_or("no form of Unicode", name_of);
                 write!(f, "no BOM, so -f FORM is needed; it looks like {form}")
             }
             TextError::Stopped(error) => fmt::Display::fmt(error, f),
@@ -74,7 +74,7 @@ pub fn open_text<S: ByteSource>(
     requires source_open { has_taken_end source.old ≡ false }
     ensures unfailed { IfOk result (λ opened. S.has_failed (source_of source.new) ≡ false) }
     ensures open { has_taken_end source.new ≡ false }
-    ensures found { from ≡ None → IfOk result (λ opened. (head : List ℕ) × (scheme_by_bom head ≡ Some opened) × (drop opened.1 head ≡ head_of source.new)) }
+    ensures found { from ≡ None → IfOk result (OpensByBom (left_by S.has_ended S.left source.old) (left_by S.has_ended S.left source.new)) }
     ensures known { (scheme : Scheme) → from ≡ Some scheme → (result ≡ Ok (scheme, 0)) × (source.new ≡ source.old) }
 {
     if let Some(scheme) = from {
@@ -109,6 +109,9 @@ pub fn convert_text<S: ByteSource, K: ByteSink>(
     ensures named { (scheme : Scheme) → conversion.from ≡ Some scheme → (bytes written : List ℕ)
         × Moves (left_by S.has_ended S.left source.old) (left_by S.has_ended S.left source.new) (K.held sink.old) (K.held sink.new) bytes written
         × EndsText scheme conversion 0 result (has_taken_end source.new) bytes written }
+
+    // Without a name, it is a run of `convert` behind the BOM, from the scheme that this indicates.
+    ensures by_bom { conversion.from ≡ None → IfOk result (ConvertsByBom conversion (left_by S.has_ended S.left source.old) (left_by S.has_ended S.left source.new) (K.held sink.old) (K.held sink.new) (has_taken_end source.new)) }
 {
     let Conversion {
         from,
