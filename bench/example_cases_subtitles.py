@@ -1,14 +1,17 @@
-"""What `example_subtitles` writes: worked out from the format alone, on a list of code units and by a pattern for a
-line of times."""
+"""What `example_subtitles` writes: worked out from the format alone, by patterns over the text of each line, and by
+Python's codecs."""
 
 import os
 import re
 
-USAGE = b"usage: subtitles FILE MILLISECONDS [drop]\n"
+USAGE = b"subtitles: wrong arguments\nusage: subtitles [--form FORM] [--to FORM] [--drop] FILE MILLISECONDS [drop]\n"
 GREATEST = 2**32 - 1
-TIME = r"([0-9]{2,}):([0-5][0-9]):([0-5][0-9]),([0-9]{3})"
-COORDINATES = re.compile(r"( +X1:([0-9]+) +X2:([0-9]+) +Y1:([0-9]+) +Y2:([0-9]+))? *")
-ESCAPES = {"\0": "\\0", "\t": "\\t", "\r": "\\r", "'": "\\'", '"': '\\"', "\\": "\\\\", "\ufeff": "\\u{feff}"}
+TIME = r"(-?)([0-9]+):([0-9]{1,2}):([0-9]{1,2})([,.])([0-9]{1,3})(?![0-9])"
+BLANK = "\t\x0b\x0c \xa0\u3000\ufeff"
+CODECS = {"UTF-16LE": "utf-16-le", "UTF-16BE": "utf-16-be", "UTF-32LE": "utf-32-le", "UTF-32BE": "utf-32-be", "UTF-8": "utf-8"}
+BOMS = [(b"\xef\xbb\xbf", "UTF-8"), (b"\xff\xfe\0\0", "UTF-32LE"), (b"\0\0\xfe\xff", "UTF-32BE"), (b"\xff\xfe", "UTF-16LE"), (b"\xfe\xff", "UTF-16BE")]
+TERMINAL = {"\n": "\\n", "\r": "\\r", "\t": "\\t", "\0": "\\0"}
+HIDDEN = "\u2028\u2029\u202a\u202b\u202c\u202d\u202e\u2066\u2067\u2068\u2069\ufeff"
 
 
 def units_of(text):
@@ -16,28 +19,56 @@ def units_of(text):
     return [data[at] + 256 * data[at + 1] for at in range(0, len(data), 2)]
 
 
-def text_of(units):
-    """Returns the text, with each unpaired surrogate as itself."""
-    return b"".join(unit.to_bytes(2, "little") for unit in units).decode("utf-16-le", "surrogatepass")
-
-
 def is_fault(char):
     return 0xD800 <= ord(char) < 0xE000
 
 
+def shown_char(char):
+    if is_fault(char):
+        return f"\\<{ord(char):04X}>"
+    if char in "\"\\":
+        return "\\" + char
+    if ord(char) < 32 or 0x7F <= ord(char) < 0xA0 or char in HIDDEN:
+        return TERMINAL.get(char) or f"\\u{{{ord(char):x}}}"
+    return char
+
+
 def shown(text):
-    return '"' + "".join(f"\\<{ord(c):X}>" if is_fault(c) else ESCAPES.get(c, c) for c in text) + '"'
+    return '"' + "".join(map(shown_char, text)) + '"'
 
 
 def lines_of(text):
     """Returns each line with its end, and nothing after the last end."""
-    return re.findall(r"((?:[^\r\n]|\r(?!\n))*)(\r\n|\n|$)", text)[:-1] if text else []
+    return [match for match in re.findall(r"([^\r\n]*)(\r\n|\n|\r|$)", text) if match != ("", "")]
 
 
-def milliseconds(hours, minutes, seconds, thousandths):
-    if int(hours) > GREATEST:
+def time_of(match):
+    """Returns a time in milliseconds, whether it is negative, and whether it is written as usual; or None."""
+    minus, hours, minutes, seconds, point, rest = match.groups()
+    if int(hours) >= GREATEST or int(minutes) >= 60 or int(seconds) >= 60:
         return None
-    return ((int(hours) * 60 + int(minutes)) * 60 + int(seconds)) * 1000 + int(thousandths)
+    size = ((int(hours) * 60 + int(minutes)) * 60 + int(seconds)) * 1000 + int(rest.ljust(3, "0"))
+    usual = not minus and len(hours) > 1 and len(minutes) == len(seconds) == 2 and point == "," and len(rest) == 3
+    return size, bool(minus), usual
+
+
+def times_in(line):
+    """Returns the times of a line and the ranges of both, or the unit at which it is no line of times."""
+    start = len(line) - len(line.lstrip(" \t"))
+    first = re.compile(TIME).match(line, start)
+    begin = first and time_of(first)
+    if not begin:
+        return start
+    arrow = re.compile(r"[ \t]*-->[ \t]*").match(line, first.end())
+    if not arrow:
+        return first.end()
+    second = re.compile(TIME).match(line, arrow.end())
+    end = second and time_of(second)
+    if not end:
+        return arrow.end()
+    if second.end() < len(line) and line[second.end()] not in " \t":
+        return second.end()
+    return begin, end, first.span(), second.span()
 
 
 def written(time):
@@ -47,100 +78,222 @@ def written(time):
 
 
 class Reader:
-    """The reports, and the text that is written."""
+    """The reports, the notes, and the text that is written."""
 
     def __init__(self, by, drops):
         self.by, self.drops = by, drops
-        self.reported, self.text, self.line, self.expects = "", "", 0, "number"
+        self.reported, self.notes, self.text, self.line, self.expects, self.noted = "", "", "", 0, "start", set()
 
     def report(self, unit, what):
         self.reported += f"line {self.line}, unit {unit}: {what}\n"
 
-    def moved(self, line):
-        first, arrow, rest = line.partition(" --> ")
-        begin = re.fullmatch(TIME, first)
-        begin = begin and milliseconds(*begin.groups())
-        if not arrow or begin is None:
-            self.report(0, "no times")
-            return line
-        last = rest.partition(" ")[0]
-        end = re.fullmatch(TIME, last)
-        end = end and milliseconds(*end.groups())
-        if end is None:
-            self.report(len(first) + 5, "no times")
-            return line
-        coordinates = rest[len(last) :]
-        found = COORDINATES.fullmatch(coordinates)
-        if not found or any(number and int(number) > GREATEST for number in found.groups()[1:]):
-            self.report(len(first) + 5 + len(last), "no times")
-            return line
-        for time, unit, what in [(begin, 0, "begins"), (end, len(first) + 5, "ends")]:
-            if time + self.by < 0:
-                self.report(unit, f"{what} at 0, not before")
-        return written(max(begin + self.by, 0)) + arrow + written(max(end + self.by, 0)) + coordinates
+    def note(self, what):
+        if what not in self.noted:
+            self.noted.add(what)
+            self.notes += f"line {self.line}, unit 0: note: {what}\n"
 
-    def add(self, line, end):
+    def moved(self, line, times):
+        begin, end, first, second = times
+        if not (begin[2] and end[2]):
+            self.note("times are written as 00:00:01,000")
+        moved = []
+        for (size, negative, _), (unit, _), what in [(begin, first, "begins"), (end, second, "ends")]:
+            time = (-size if negative else size) + self.by
+            if time < 0:
+                self.report(unit, f"{what} at 0, not before")
+            moved.append(written(max(time, 0)))
+        return line[: first[0]] + moved[0] + line[first[1] : second[0]] + moved[1] + line[second[1] :]
+
+    def is_right(self, line):
+        """Reports what a line is that should be something else, and returns its times if they are to be moved."""
+        expects, content = self.expects, line.strip(BLANK)
+        times = times_in(line)
+        if not content:
+            self.expects = "start"
+            if expects == "times":
+                self.report(0, "no times")
+            return None
+        is_number = re.fullmatch("[0-9]+", content)
+        if not is_number and not isinstance(times, int):
+            self.expects = "text"
+            if expects == "start":
+                self.note("a subtitle without a number")
+            elif expects == "text":
+                self.note("a subtitle without an empty line before it")
+            return times
+        self.expects = "text"
+        if not is_number and times > 0 and "-->" in line:
+            self.report(times, "no times")
+        elif expects == "start" and is_number:
+            self.expects = "times"
+        elif expects == "start":
+            self.report(0, "no number")
+        elif expects == "times":
+            self.report(0, "no times")
+        return None
+
+    def add(self, line, end, bad):
+        """Adds a line. `bad` has the places and the messages of its bytes that are no text."""
         self.line += 1
-        at, has_fault = 0, False
+        at = 0
+        has_fault = bool(bad)
         for char in line:
             if is_fault(char):
                 has_fault = True
                 self.report(at, f"fault {ord(char):04X}")
             at += len(units_of(char))
+        for unit, what in bad:
+            self.report(unit, what)
         repaired = "".join("\ufffd" if is_fault(char) else char for char in line)
-        if self.expects == "times":
-            repaired = self.moved(repaired)
-            self.expects = "text"
-        elif self.expects == "number" and line:
-            if re.fullmatch("[0-9]+", line):
-                self.expects = "times"
-            else:
-                self.report(0, "no number")
-                self.expects = "text"
-        if not line:
-            self.expects = "number"
+        times = self.is_right(line)
+        if times:
+            repaired = self.moved(repaired, times)
         if has_fault and self.drops:
             self.report(0, f"left out, {shown(line)}")
         else:
             self.text += repaired + end
 
 
-def request_of(arguments):
-    if not (len(arguments) == 2 or (len(arguments) == 3 and arguments[2] == "drop")):
+def request_of(words):
+    """Returns the options, the milliseconds and whether lines are dropped, or None."""
+    options, words = {}, list(words)
+    while words and re.match("-[^0-9]", words[0]):
+        name = words.pop(0)
+        if name == "--":
+            break
+        options[name] = True if name == "--drop" else words.pop(0)
+    if not (len(words) == 2 or (len(words) == 3 and words[2] == "drop")):
         return None
-    number = re.fullmatch(r"([+-]?)([0-9]+)", arguments[1])
+    number = re.fullmatch(r"([+-]?)([0-9]+)", words[1])
     if not number or int(number[2]) > GREATEST:
         return None
-    return int(number[2]) * (-1 if number[1] == "-" else 1), len(arguments) == 3
+    return options, int(number[2]) * (-1 if number[1] == "-" else 1), len(words) == 3 or "--drop" in options
 
 
-def read(arguments, data):
+def bom_of(data):
+    for bom, form in BOMS:
+        if data.startswith(bom):
+            return form, len(bom)
+    return None, 0
+
+
+def likely_form(data):
+    """Returns what the beginning of a file without a BOM looks like."""
+    data = data[:1024]
+    zeros = [sum(1 for byte in data[start::4] if byte == 0) for start in range(4)]
+    few = len(data) // 8
+    for form, is_likely in (
+        ("UTF-32LE", zeros[2] > few and zeros[3] > few),
+        ("UTF-32BE", zeros[0] > few and zeros[1] > few),
+        ("UTF-16LE", zeros[1] + zeros[3] > few),
+        ("UTF-16BE", zeros[0] + zeros[2] > few),
+    ):
+        if is_likely:
+            return form
+    try:
+        data.decode()
+        return "UTF-8"
+    except UnicodeDecodeError as fault:
+        return "UTF-8" if fault.reason == "unexpected end of data" else None
+
+
+def form_of(data, asked):
+    """Returns the form of a file and the length of its BOM, or what is said if it is not known."""
+    form, skip = bom_of(data)
+    if asked:
+        asked = asked.upper()
+        if asked in ("UTF-16", "UTF-32"):
+            if form and form.startswith(asked) or asked == "UTF-16" and data[:2] in (b"\xff\xfe", b"\xfe\xff"):
+                order = "LE" if data[0] == 0xFF else "BE"
+                return asked + order, len(asked) // 3 if asked == "UTF-16" else 4
+            return asked + "LE", 0
+        return asked, skip if asked == form == "UTF-8" else 0
+    if not form:
+        for pattern, found in ((rb"[0-9]\0\0\0", "UTF-32LE"), (rb"\0\0\0[0-9]", "UTF-32BE"), (rb"[0-9]\0", "UTF-16LE"), (rb"\0[0-9]", "UTF-16BE")):
+            if re.match(pattern, data):
+                return found, 0
+        likely = likely_form(data)
+        if data and likely != "UTF-8":
+            said = f"it looks like {likely}, which --form {likely} reads" if likely else "it looks like no form of Unicode; --form FORM says what it is"
+            return None, f"no BOM, and {said}"
+        form = "UTF-8"
+    return form, skip
+
+
+def text_of(data, form):
+    """Returns the text of bytes, and the places in units and the messages of bytes that are no text."""
+    text, bad = "", []
+    size = {"UTF-16LE": 2, "UTF-16BE": 2, "UTF-32LE": 4, "UTF-32BE": 4}.get(form, 1)
+    order = "little" if form.endswith("LE") else "big"
+    whole = len(data) // size * size
+    if size == 2:
+        units = b"".join(int.from_bytes(data[at : at + 2], order).to_bytes(2, "little") for at in range(0, whole, 2))
+        text = units.decode("utf-16-le", "surrogatepass")
+    elif size == 4:
+        for at in range(0, whole, 4):
+            number = int.from_bytes(data[at : at + 4], order)
+            if number < 0x110000 and not 0xD800 <= number < 0xE000:
+                text += chr(number)
+            else:
+                bad.append((len(units_of(text)), f"fault {number:02X}"))
+                text += "\ufffd"
+    elif form == "UTF-8":
+        while data:
+            try:
+                text += data.decode()
+                break
+            except UnicodeDecodeError as fault:
+                text += data[: fault.start].decode()
+                bad.append((len(units_of(text)), f"fault {data[fault.start]:02X}"))
+                text += "\ufffd"
+                data = data[fault.end :]
+    else:
+        for byte in data:
+            try:
+                text += bytes([byte]).decode(form.lower())
+            except UnicodeDecodeError:
+                text += chr(byte)
+    if size > 1 and whole != len(data):
+        bad.append((len(units_of(text)), "part of a unit"))
+    return text, bad
+
+
+def output_of(text, data, form, asked, to):
+    """Returns the bytes that are written."""
+    has_bom = form in CODECS and any(data.startswith(bom) for bom, other in BOMS if other == form or not (form == "UTF-8" or other == "UTF-8"))
+    to = (to or (form if form in CODECS else "UTF-8")).upper()
+    to = {"UTF-16": "UTF-16LE", "UTF-32": "UTF-32LE", "WTF-8": "UTF-8"}.get(to, to)
+    return (("\ufeff" if has_bom else "") + text).encode(CODECS[to])
+
+
+def read(words, data):
     """Returns standard output, standard error and status."""
-    request = request_of(arguments)
+    request = request_of(words)
     if request is None:
         return b"", USAGE, 2
-    reader = Reader(*request)
-    order, pairs = "little", data
-    if data[:2] == b"\xff\xfe":
-        pairs = data[2:]
-    elif data[:2] == b"\xfe\xff":
-        order, pairs = "big", data[2:]
-    elif re.match(rb"\0[0-9]", data):
-        order = "big"
-    units = [int.from_bytes(pairs[at : at + 2], order) for at in range(0, len(pairs) - 1, 2)]
-    lines = lines_of(text_of(units))
+    options, by, drops = request
+    form, skip = form_of(data, options.get("--form"))
+    if not form:
+        return b"", f"{skip}\n".encode(), 1
+    reader = Reader(by, drops)
+    text, bad = text_of(data[skip:], form)
+    lines, at = lines_of(text), 0
     for line, end in lines:
-        reader.add(line, end)
+        following = at + len(units_of(line + end))
+        reader.add(line, end, [(unit - at, what) for unit, what in bad if unit < following])
+        bad = [(unit, what) for unit, what in bad if unit >= following]
+        at = following
     last = 0
-    if lines and not lines[-1][1]:
+    if lines and not lines[-1][1] and lines[-1][0]:
         last = len(units_of(lines[-1][0]))
     else:
         reader.line += 1
     if reader.expects == "times":
         reader.report(last, "no times")
-    if len(pairs) % 2:
-        reader.report(last, f"half of a unit, {pairs[-1]:02X}")
-    return b"\xff\xfe" + reader.text.encode("utf-16-le"), reader.reported.encode(), 1 if reader.reported else 0
+    for _, what in bad:
+        reader.report(last, what)
+    output = output_of(reader.text, data, form, options.get("--form"), options.get("--to"))
+    return output, (reader.notes + reader.reported).encode(), 1 if reader.reported else 0
 
 
 def little(text):
@@ -163,6 +316,28 @@ CASES = [
     ("eggs are no times", ["1000"], "1\n5,0 --> 6,0 eggs\n\n2\n00:00:05,000 --> 00:00:06,000 eggs\n"),
     ("where the text stands", ["1000"], "1\n00:00:01,000 --> 00:00:02,000  X1:40 X2:600 Y1:020 Y2:50 \na\n\n2\n00:00:01,000 --> 00:00:02,000 X1:40 X2:600\n\n3\n00:00:01,000 --> 00:00:02,000 X1:40 X2:600 Y1:20 Y2:x\n\n4\n00:00:01,000 --> 00:00:02,000 X1:1 X2:1 Y1:1 Y2:1 Y2:1\n\n5\n00:00:01,000 --> 00:00:02,000 \n"),
     ("no number", ["1000"], "00:00:01,000 --> 00:00:02,000\na\n\n1 \n00:00:01,000 --> 00:00:02,000\n\n\n2\n\n3\n"),
+    ("neither a number nor times", ["1000"], "one\n00:00:01,000 --> 00:00:02,000\na\n"),
+    ("nothing but white space between subtitles", ["1000"], "1\n00:00:01,000 --> 00:00:02,000\na\n \t\n2\n00:00:03,000 --> 00:00:04,000\nb\n"),
+    ("nothing between subtitles", ["1000"], "1\n00:00:01,000 --> 00:00:02,000\na\n2\n00:00:03,000 --> 00:00:04,000\nb\n00:00:05,000 --> 00:00:06,000\nc\n"),
+    ("no numbers", ["1000"], "00:00:01,000 --> 00:00:02,000\na\n\n00:00:03,000 --> 00:00:04,000\nb\n"),
+    ("times as other programs write them", ["1000"], "1\n0:00:01,000-->0:0:2,5\na\n\n2\n00:00:03.25   -->   00:00:04.000\nb\n\n3\n\t00:00:05,000\t-->\t00:00:06,000 \n"),
+    ("negative times", ["+1500"], "1\n-00:00:01,000 --> -00:00:01,500\na\n\n2\n-00:00:02,000 --> 00:00:04,000\nb\n"),
+    ("negative times that become earlier", ["-1500"], "1\n-00:00:01,000 --> 00:00:01,500\na\n"),
+    ("tags behind times", ["1000"], "1\n00:00:01,000 --> 00:00:02,000 align:start position:10%\na\n\n2\n00:00:01,000 --> 00:00:02,000x\n"),
+    ("a carriage return ends a line", ["1000"], "1\r00:00:01,000 --> 00:00:02,000\ra\r\r2\r00:00:03,000 --> 00:00:04,000\rb"),
+    ("UTF-8", ["1000"], "1\n00:00:01,000 --> 00:00:02,000\né😀\n".encode()),
+    ("UTF-8 behind a mark", ["1000"], "\ufeff1\n00:00:01,000 --> 00:00:02,000\né\n".encode()),
+    ("UTF-32", ["1000"], "\ufeff1\n00:00:01,000 --> 00:00:02,000\n😀\n".encode("utf-32-be")),
+    ("UTF-32 without a mark", ["1000"], "1\n00:00:01,000 --> 00:00:02,000\n😀\n".encode("utf-32-le")),
+    ("from UTF-16 to UTF-8", ["--to", "utf-8", "1000"], ONE),
+    ("from UTF-8 to UTF-16", ["--to", "UTF-16BE", "1000"], ONE.encode()),
+    ("a code page", ["--form", "cp1252", "1000"], "1\n00:00:01,000 --> 00:00:02,000\n".encode() + b"caf\xe9\n"),
+    ("what is not known", ["1000"], b"caf\xe9\n"),
+    ("big endian that does not begin with a digit", ["1000"], "\n1\n00:00:01,000 --> 00:00:02,000\na".encode("utf-16-be")),
+    ("and as it is asked for", ["--form", "utf-16be", "1000"], "\n1\n00:00:01,000 --> 00:00:02,000\na".encode("utf-16-be")),
+    ("faults of UTF-8", ["1000"], b"1\n00:00:01,000 --> 00:00:02,000\na\xff\xf0\x9f\x98b\nc\xe2\x82"),
+    ("faults of UTF-8 that are left out", ["--drop", "1000"], b"1\n00:00:01,000 --> 00:00:02,000\na\xff\nb\n"),
+    ("nothing reaches a terminal that would change it", ["1000", "drop"], "1\r\n00:00:01,000 --> 00:00:02,000\r\n\x1b[2J\u202e\ud83d\r\n"),
     ("no times at the end", ["1000"], "1"),
     ("faults", ["1000"], "1\r\n00:00:01,000 --> 00:00:02,000\r\n\ud83d\ud83d\ude00😀\udc00!\r\nb\r\n"),
     ("faults that are left out", ["1000", "drop"], "1\r\n00:00:01,000 --> 00:00:02,000\r\n😀\ud83d'\r\nb\r\n\udc00"),
@@ -224,10 +399,8 @@ def random_file(random):
     text = "".join(line + (usual if random.randrange(12) else random.choice(["\n", "\r\n", "\r\r\n"])) for line in lines)
     if random.randrange(3) == 0:
         text = text[: -random.randrange(1, 4)]
-    form = random.choice(["little", "little", "little", "big"])
-    data = text.encode(f"utf-16-{form[0]}e", "surrogatepass")
-    if random.randrange(5):
-        data = (b"\xff\xfe" if form == "little" else b"\xfe\xff") + data
+    form = random.choice(["utf-16-le", "utf-16-le", "utf-16-be", "utf-8", "utf-32-le"])
+    data = (random.choice(["", "\ufeff"]) + text).encode(form, "surrogatepass" if form != "utf-32-le" else "replace")
     return data + random.choice([b"", b"", b"", b"1", b"\n"])
 
 
@@ -237,8 +410,12 @@ def question(random, folder):
         file.write(data)
     number = random.choice(["+", "-", ""]) + str(random.choice([0, 1, 500, random.randrange(4000), 3600000]))
     if random.randrange(40) == 0:
-        number = random.choice(["1.5", "--500", "+-5", "", "-", "x", "4294967296", "4294967295", "-4294967295", "99999999999999999999", "1 "])
+        number = random.choice(["1.5", "+-5", "", "x", "4294967296", "4294967295", "-4294967295", "99999999999999999999", "1 "])
     arguments = ["moved.srt", number] + random.choice([[], [], ["drop"]])
+    if random.randrange(4) == 0:
+        arguments = ["--to", random.choice([*CODECS, "UTF-16"]), *arguments]
+    if random.randrange(6) == 0:
+        arguments = ["--form", random.choice([*CODECS, "UTF-16", "CP1252"]), *arguments]
     if random.randrange(60) == 0:
         arguments = random.choice([[], arguments[:1], [*arguments[:2], "Drop"], [*arguments[:2], "drop", "drop"], [*arguments[:2], ""]])
     return arguments, *read(arguments, data)
@@ -247,5 +424,11 @@ def question(random, folder):
 def cases():
     for name, more, file in CASES:
         data = file if isinstance(file, bytes) else little(file)
-        arguments = ["{}", *more]
+        options, words = [], list(more)
+        while words and words[0].startswith("--") and words[0][2:3].isalpha():
+            options.append(words.pop(0))
+            if options[-1] != "--drop":
+                options.append(words.pop(0))
+        arguments = [*options, "{}", *words]
         yield name, arguments, data, *read(arguments, data)
+    yield "no words", [], b"", *read([], b"")

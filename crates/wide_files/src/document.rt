@@ -5,6 +5,7 @@ use std::alloc::Global;
 use std::fmt;
 use wide_convert::{Converter, ProgressEnd};
 use wide_error::OutOfMemory;
+use wide_forms::Policy;
 use wide_schemes::Scheme;
 
 // How many bytes of units are decoded before they are stored.
@@ -110,4 +111,27 @@ impl Document {
         }
         Ok(document)
     }
+}
+
+/// Returns units as bytes in a scheme, with a BOM or without one. Each fault becomes U+FFFD, unless the scheme keeps it.
+///
+/// # Errors
+///
+/// If an allocation fails.
+pub fn encode_units(
+    alloc: Global,
+    units: &[u16],
+    scheme: Scheme,
+    has_bom: bool,
+) -> Result<Vec<u8>, OutOfMemory> {
+    let mut converter = Converter::new(Scheme::Utf16Le, scheme, Some(Policy::Each), has_bom);
+    let mut bytes = Vec::new(alloc);
+    let mut chunk = [0u8; CHUNK_BYTES];
+    for unit in units {
+        let progress = converter.push(&unit.to_le_bytes(), &mut chunk);
+        bytes.extend_from_slice(&chunk[..progress.written])?;
+    }
+    let progress = converter.push_last(&[], &mut chunk);
+    bytes.extend_from_slice(&chunk[..progress.written])?;
+    Ok(bytes)
 }

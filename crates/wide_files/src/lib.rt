@@ -13,7 +13,7 @@ mod words;
 
 pub use beginning::{looks_like, scheme_by_bom};
 pub use code_pages::CodePage;
-pub use document::{BadBytes, Document};
+pub use document::{BadBytes, Document, encode_units};
 pub use form::{Form, NoForm, form_named, form_of, name_of, scheme_named};
 pub use outcome::{Outcome, Place};
 pub use program::{Program, run};

@@ -21,8 +21,12 @@ pub struct Outcome<'a> {
     pub file: &'a str,
     /// The output.
     pub output: String,
+    /// What follows it, in another form.
+    pub bytes: Vec<u8>,
     /// The reports, a line each.
     pub reported: String,
+    /// What is said beside them and does not change the status, a line each.
+    pub notes: String,
 }
 
 impl<'a> Outcome<'a> {
@@ -34,7 +38,9 @@ impl<'a> Outcome<'a> {
         Outcome {
             file,
             output: String::new(alloc),
+            bytes: Vec::new(alloc),
             reported: String::new(alloc),
+            notes: String::new(alloc),
         }
     }
 
@@ -63,5 +69,19 @@ impl<'a> Outcome<'a> {
     ) -> Result<(), AllocError> {
         let Place { line, unit } = place;
         self.report(format_args!("line {line}, unit {unit}: {what}"))
+    }
+
+    /// Notes something about a place, which does not change the status.
+    ///
+    /// # Errors
+    ///
+    /// If an allocation fails.
+    pub fn note_at(&mut self, place: Place, what: &str) -> Result<(), AllocError> {
+        let (Place { line, unit }, file) = (place, self.file);
+        let separator = if file.is_empty() { "" } else { ": " };
+        writeln!(
+            self.notes,
+            "{file}{separator}line {line}, unit {unit}: note: {what}"
+        )
     }
 }

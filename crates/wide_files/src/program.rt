@@ -142,6 +142,8 @@ fn run_file<P: Program>(
     let mut outcome = Outcome::new(rt.alloc(), if is_one { "" } else { file });
     program.read(rt.alloc(), &bytes, &mut outcome)?;
     rt.stdout().write_all(outcome.output.as_bytes())?;
+    rt.stdout().write_all(&outcome.bytes)?;
+    rt.stderr().write_all(outcome.notes.as_bytes())?;
     rt.stderr().write_all(outcome.reported.as_bytes())?;
     Ok(Done {
         reported: !outcome.reported.is_empty(),
