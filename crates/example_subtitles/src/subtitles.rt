@@ -9,7 +9,7 @@ ghost use Rattle.widestring.specs.UnitView.{units_seen};
 use std::alloc::{AllocError, Global};
 use std::fmt::Display;
 use wide_files::{BadBytes, Document, Outcome, Place, Quoted};
-use wide_subtitles::{Finding, Line, Location, Time, Times, first_line, kind_of, moved};
+use wide_subtitles::{Finding, Line, Location, Time, Times, first_line, kind_of, move_time};
 use widestring::edit::{Edit, run as run_edits};
 use widestring::error::OutOfMemory;
 use widestring::{U16Str, Utf16String};
@@ -120,7 +120,7 @@ impl Subtitles {
         unit: usize,
         what: &str,
     ) -> Result<String, OutOfMemory> {
-        let moved = moved(time, self.request.by, self.request.is_earlier);
+        let moved = move_time(time, self.request.by, self.request.is_earlier);
         if moved.is_cut {
             self.report(outcome, unit, format_args!("{what} at 0, not before"))?;
         }

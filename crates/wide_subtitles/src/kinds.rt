@@ -1,5 +1,8 @@
 //! What a line is by itself.
 
+ghost use Rattle.std.specs.Prelude.{◌≤◌, IfSome, length};
+ghost use Rattle.wide_subtitles.specs.Kinds.{times_in};
+
 use crate::times::{Times, times_of};
 
 /// What a line is.
@@ -24,20 +27,14 @@ fn is_blank(unit: u16) -> bool {
 
 // Returns the units without blanks at both ends.
 fn trimmed(units: &[u16]) -> &[u16] {
-    let mut rest = units;
-    while let [first, tail @ ..] = rest {
-        if !is_blank(*first) {
-            break;
-        }
-        rest = tail;
-    }
-    while let [head @ .., last] = rest {
-        if !is_blank(*last) {
-            break;
-        }
-        rest = head;
-    }
-    rest
+    let before = units.iter().take_while(|unit| is_blank(**unit)).count();
+    let rest = units.get(before..).unwrap_or_default();
+    let after = rest
+        .iter()
+        .rev()
+        .take_while(|unit| is_blank(**unit))
+        .count();
+    &rest[..rest.len().saturating_sub(after)]
 }
 
 // Returns whether the units have an arrow.
@@ -47,7 +44,9 @@ fn has_arrow(units: &[u16]) -> bool {
 }
 
 /// Returns what a line is.
-pub fn kind_of(units: &[u16]) -> Kind {
+pub fn kind_of(units: &[u16]) -> Kind
+    ensures ordered { IfSome (times_in result) (λ times. (times.first_end ≤ times.second_end) × (times.second_end ≤ length units.now)) }
+{
     let content = trimmed(units);
     if content.is_empty() {
         return Kind::Blank;

@@ -12,4 +12,4 @@ mod times;
 pub use kinds::{Kind, kind_of};
 pub use lines::{Line, first_line};
 pub use location::{Finding, Location, Step};
-pub use times::{Moved, Time, Times, moved, times_of};
+pub use times::{Moved, Time, Times, move_time, times_of};

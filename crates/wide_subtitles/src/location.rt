@@ -1,5 +1,10 @@
 //! What a line is behind the lines before it.
 
+ghost use Rattle.std.specs.Prelude.{◌≡◌, None, Some};
+ghost use Rattle.wide_subtitles.specs.Kinds.{times_in};
+ghost use Rattle.wide_subtitles.specs.declared.kinds.Kind.TheVariants.{Blank};
+ghost use Rattle.wide_subtitles.specs.declared.location.Location.TheVariants.{Start, Text};
+
 use crate::kinds::Kind;
 use crate::times::Times;
 
@@ -40,7 +45,11 @@ pub struct Step {
 
 impl Location {
     // Returns a step of a line without times.
-    fn step(self, finding: Option<Finding>) -> Step {
+    fn step(self, finding: Option<Finding>) -> Step
+        ensures next { result.next ≡ self }
+        ensures finding { result.finding ≡ finding }
+        ensures times { result.times ≡ None }
+    {
         Step {
             next: self,
             finding,
@@ -48,26 +57,69 @@ impl Location {
         }
     }
 
+    // Returns what follows from a line of white space.
+    fn after_blank(self) -> Step
+        ensures next { result.next ≡ Start }
+        ensures times { result.times ≡ None }
+    {
+        match self {
+            Location::Times => Location::Start.step(Some(Finding::NotTimes(0))),
+            Location::Start | Location::Text => Location::Start.step(None),
+        }
+    }
+
+    // Returns what follows from a line of times.
+    fn after_times(self, times: Times) -> Step
+        ensures next { result.next ≡ Text }
+        ensures times { result.times ≡ Some times }
+    {
+        let finding = match self {
+            Location::Start => Some(Finding::NoNumber),
+            Location::Times => None,
+            Location::Text => Some(Finding::NoSeparator),
+        };
+        Step {
+            next: Location::Text,
+            finding,
+            times: Some(times),
+        }
+    }
+
+    // Returns what follows from a number.
+    fn after_number(self) -> Step
+        ensures times { result.times ≡ None }
+    {
+        match self {
+            Location::Start => Location::Times.step(None),
+            Location::Times => Location::Text.step(Some(Finding::NotTimes(0))),
+            Location::Text => Location::Text.step(None),
+        }
+    }
+
+    // Returns what follows from a line of text.
+    fn after_text(self) -> Step
+        ensures times { result.times ≡ None }
+    {
+        let finding = match self {
+            Location::Start => Some(Finding::NotNumber),
+            Location::Times => Some(Finding::NotTimes(0)),
+            Location::Text => None,
+        };
+        Location::Text.step(finding)
+    }
+
     /// Returns what follows from a line at this location. Times begin a subtitle wherever they stand, so that none stays
-    /// behind when all are moved.
-    pub fn after(self, kind: Kind) -> Step {
-        match (self, kind) {
-            (Location::Times, Kind::Blank) => Location::Start.step(Some(Finding::NotTimes(0))),
-            (_, Kind::Blank) => Location::Start.step(None),
-            (_, Kind::Times(times)) => Step {
-                next: Location::Text,
-                finding: match self {
-                    Location::Start => Some(Finding::NoNumber),
-                    Location::Times => None,
-                    Location::Text => Some(Finding::NoSeparator),
-                },
-                times: Some(times),
-            },
-            (_, Kind::Broken(unit)) => Location::Text.step(Some(Finding::NotTimes(unit))),
-            (Location::Start, Kind::Number) => Location::Times.step(None),
-            (Location::Start, Kind::Text) => Location::Text.step(Some(Finding::NotNumber)),
-            (Location::Times, _) => Location::Text.step(Some(Finding::NotTimes(0))),
-            (Location::Text, _) => Location::Text.step(None),
+    /// behind when all are moved, and an empty line ends one.
+    pub fn after(self, kind: Kind) -> Step
+        ensures times { result.times ≡ times_in kind }
+        ensures blank { kind ≡ Blank → result.next ≡ Start }
+    {
+        match kind {
+            Kind::Blank => self.after_blank(),
+            Kind::Times(times) => self.after_times(times),
+            Kind::Broken(unit) => Location::Text.step(Some(Finding::NotTimes(unit))),
+            Kind::Number => self.after_number(),
+            Kind::Text => self.after_text(),
         }
     }
 }

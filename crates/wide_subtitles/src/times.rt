@@ -1,6 +1,6 @@
 //! Lines of times, and times that are moved.
 
-ghost use Rattle.std.specs.Prelude.{◌≡◌, ◌+◌, ◌-◌, ◌<◌, ◌≤◌, ◌^◌, ◌×◌, IfOk, IfSome, false, length, true};
+ghost use Rattle.std.specs.Prelude.{◌≡◌, ◌+◌, ◌-◌, ◌<◌, ◌≤◌, ◌^◌, IfOk, IfSome, false, length, true};
 
 const SPACE: u16 = b' ' as u16;
 
@@ -220,7 +220,7 @@ pub struct Moved {
 }
 
 /// Moves a time by so many milliseconds. A time before the beginning becomes 0.
-pub fn moved(time: Time, by: u32, is_earlier: bool) -> Moved
+pub fn move_time(time: Time, by: u32, is_earlier: bool) -> Moved
     ensures later { time.is_negative ≡ false → is_earlier ≡ false → result.time ≡ time.size + by }
     ensures earlier { time.is_negative ≡ false → is_earlier ≡ true → result.time ≡ time.size - by }
     ensures negative_later { time.is_negative ≡ true → is_earlier ≡ false → result.time ≡ by - time.size }
