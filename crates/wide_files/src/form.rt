@@ -1,6 +1,6 @@
 //! The forms of files of text, and their names.
 
-ghost use Rattle.std.specs.Prelude.{◌≡◌, IfNone, IfOk, IfSome, Some};
+ghost use Rattle.std.specs.Prelude.{◌≡◌, ◌↔◌, IfNone, IfOk, IfSome, IsTrue, Some};
 ghost use Rattle.wide_files.specs.Forms.{IsSameInAnyCase, name_of};
 ghost use Rattle.wide_files.specs.declared.form.Form.{Form};
 ghost use Rattle.wide_schemes.specs.declared.scheme.Scheme.{Scheme};
@@ -49,16 +49,11 @@ pub fn name_of(scheme: Scheme) -> &'static str
     }
 }
 
-// Returns the scheme if this is its name, in letters of either case.
-fn if_named(scheme: Scheme, name: &str) -> Option<Scheme>
-    ensures named { IfSome result (λ found. (found ≡ scheme) × IsSameInAnyCase (name_of scheme) name.now) }
-    ensures none { IfNone result (¬ (IsSameInAnyCase (name_of scheme) name.now)) }
+// Returns whether this is the name of a scheme, in letters of either case.
+fn is_named(scheme: Scheme, name: &str) -> bool
+    ensures { IsTrue result ↔ IsSameInAnyCase (name_of scheme) name.now }
 {
-    if name_of(scheme).eq_ignore_ascii_case(name) {
-        Some(scheme)
-    } else {
-        None
-    }
+    name_of(scheme).eq_ignore_ascii_case(name)
 }
 
 /// Returns the scheme with this name, in letters of either case, or `None` if there is none.
@@ -66,14 +61,31 @@ pub fn scheme_named(name: &str) -> Option<Scheme>
     ensures named { IfSome result (λ scheme. IsSameInAnyCase (name_of scheme) name.now) }
     ensures none { IfNone result ((scheme : Scheme) → ¬ (IsSameInAnyCase (name_of scheme) name.now)) }
 {
-    if_named(Scheme::Utf8, name)
-        .or(if_named(Scheme::Utf16, name))
-        .or(if_named(Scheme::Utf16Le, name))
-        .or(if_named(Scheme::Utf16Be, name))
-        .or(if_named(Scheme::Utf32, name))
-        .or(if_named(Scheme::Utf32Le, name))
-        .or(if_named(Scheme::Utf32Be, name))
-        .or(if_named(Scheme::Wtf8, name))
+    if is_named(Scheme::Utf8, name) {
+        return Some(Scheme::Utf8);
+    }
+    if is_named(Scheme::Utf16, name) {
+        return Some(Scheme::Utf16);
+    }
+    if is_named(Scheme::Utf16Le, name) {
+        return Some(Scheme::Utf16Le);
+    }
+    if is_named(Scheme::Utf16Be, name) {
+        return Some(Scheme::Utf16Be);
+    }
+    if is_named(Scheme::Utf32, name) {
+        return Some(Scheme::Utf32);
+    }
+    if is_named(Scheme::Utf32Le, name) {
+        return Some(Scheme::Utf32Le);
+    }
+    if is_named(Scheme::Utf32Be, name) {
+        return Some(Scheme::Utf32Be);
+    }
+    if is_named(Scheme::Wtf8, name) {
+        return Some(Scheme::Wtf8);
+    }
+    None
 }
 
 /// Returns the form with this name, in letters of either case, or `None` if there is none. A code page has a name such
