@@ -79,5 +79,5 @@ opens before head rest ended left found kept bom behind = record {
   bom = bom;
   begins = (left_of [] ended left, kept-consumes before (left_of head ended left) (left_of [] ended left) head kept (all-taken head ended left));
   taken = kept-consumes before (left_of head ended left) (left_of rest ended left) (take found.1 head) kept
-    (subst (λ xs. Consumes (left_of head ended left) (left_of xs ended left) (take found.1 head)) (sym behind) (first-taken head found.1 ended left));
+      (subst (λ xs. Consumes (left_of head ended left) (left_of xs ended left) (take found.1 head)) (sym behind) (first-taken head found.1 ended left));
 }

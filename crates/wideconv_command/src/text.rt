@@ -27,7 +27,10 @@ impl fmt::Display for TextError {
     fn fmt<W: fmt::Write>(&self, f: &mut fmt::Formatter<W>) -> fmt::Result {
         match self {
             TextError::NoBom(scheme) => {
-                let form = scheme.map_or("no form of Unicode", name_of);
+                let form = match scheme {
+                    Some(scheme) => name_of(*scheme),
+                    None => "no form of Unicode",
+                };
                 write!(f, "no BOM, so -f FORM is needed; it looks like {form}")
             }
             TextError::Stopped(error) => fmt::Display::fmt(error, f),
