@@ -1,0 +1,165 @@
+//! What a line of an export says.
+
+ghost use Rattle.std.specs.Prelude.{◌≡◌, ◌<◌, ◌≤◌, IfSome, length};
+
+use crate::bytes::{AT, behind_bytes};
+use crate::line::{after, first_line, is_text, last_units, without_blanks, without_marks};
+use crate::string::{QUOTE, closing_quote};
+
+/// The first line of a file, which says how the rest is written.
+#[derive(Clone, Copy, Debug, PartialEq, Eq)]
+pub enum Header {
+    /// `REGEDIT4`: text in bytes is in the code page of the file.
+    Regedit4,
+    /// `Windows Registry Editor Version 5.00`: text in bytes is UTF-16LE.
+    Version5,
+}
+
+/// A key.
+#[derive(Clone, Copy)]
+pub struct Key<'a> {
+    /// Its path from the root on, with a backslash between two names.
+    pub path: &'a [u16],
+    /// Whether it is deleted, with all that is below it.
+    pub is_deleted: bool,
+}
+
+/// The data of a value.
+#[derive(Clone, Copy)]
+pub enum Data<'a> {
+    /// The value is deleted.
+    Deleted,
+    /// A string as it is written, without its quotes.
+    Text(&'a [u16]),
+    /// A number of 32 bits.
+    Number(u32),
+    /// The number of a type, and the bytes as they are written, all lines of them: what is behind the colon.
+    Bytes(u32, &'a [u16]),
+    /// Something else.
+    None,
+}
+
+/// A value.
+#[derive(Clone, Copy)]
+pub struct Value<'a> {
+    /// Its name as it is written, without its quotes, or `None` for the default value, `@`.
+    pub name: Option<&'a [u16]>,
+    /// Its data.
+    pub data: Data<'a>,
+}
+
+/// What a part says.
+#[derive(Clone, Copy)]
+pub enum Entry<'a> {
+    /// The header.
+    Header(Header),
+    /// A key.
+    Key(Key<'a>),
+    /// A value.
+    Value(Value<'a>),
+    /// Nothing, or nothing that can be read.
+    None,
+}
+
+// The headers, and what they are.
+static HEADERS: [(&str, Header); 2] = [
+    ("REGEDIT4", Header::Regedit4),
+    ("Windows Registry Editor Version 5.00", Header::Version5),
+];
+
+// The type of data that is written as `hex:`.
+const BINARY: u32 = 3;
+
+// Returns the header that a line is.
+pub fn header_of(line: &[u16]) -> Option<Header> {
+    let line = without_marks(without_blanks(line));
+    for (text, header) in &HEADERS {
+        if is_text(line, text) {
+            return Some(*header);
+        }
+    }
+    None
+}
+
+// The name of a value, and what follows `=`.
+#[derive(Clone, Copy)]
+pub struct Assignment<'a> {
+    pub name: Option<&'a [u16]>,
+    pub data: &'a [u16],
+}
+
+// Returns the name and the data of a value, if a line has both. It begins with its name.
+pub fn assignment_of(line: &[u16]) -> Option<Assignment<'_>>
+    ensures { IfSome result (λ found. length found.data.now ≤ length line.now) }
+{
+    let (name, behind) = match line {
+        [AT, behind @ ..] => (None, behind),
+        [QUOTE, string @ ..] => {
+            let (name, behind) = string.split_at(closing_quote(string)?);
+            (Some(name), after(behind, "\"")?)
+        }
+        _ => return None,
+    };
+    let data = without_blanks(after(without_blanks(behind), "=")?);
+    Some(Assignment { name, data })
+}
+
+// Returns the number of one to eight hexadecimal digits.
+pub fn number_of(digits: &[u16]) -> Option<u32> {
+    if digits.is_empty() || digits.len() > 8 {
+        return None;
+    }
+    let mut number: u32 = 0;
+    for unit in digits {
+        let digit = char::from_u32(u32::from(*unit))?.to_digit(16)?;
+        number = number.wrapping_mul(16).wrapping_add(digit);
+    }
+    Some(number)
+}
+
+// Returns the type and the bytes, if data begin like bytes.
+pub fn typed_bytes(data: &[u16]) -> Option<(u32, &[u16])>
+    ensures { IfSome result (λ bytes. length bytes.1.now ≤ length data.now) }
+{
+    let rest = after(data, "hex")?;
+    let Some(number) = after(rest, "(") else {
+        return Some((BINARY, after(rest, ":")?));
+    };
+    let at = number.iter().position(|unit| *unit == b')' as u16)?;
+    let (digits, behind) = number.split_at(at);
+    Some((number_of(digits)?, after(behind, "):")?))
+}
+
+// Returns what follows the line in which a string ends, if only blanks follow it there. The string begins in another
+// line or in this one.
+fn behind_string(text: &[u16]) -> Option<&[u16]>
+    ensures { IfSome result (λ rest. length rest.now < length text.now) }
+{
+    let (_, behind) = text.split_at(closing_quote(text)?);
+    let line = first_line(after(behind, "\"")?);
+    if without_blanks(line.units).is_empty() {
+        Some(line.rest)
+    } else {
+        None
+    }
+}
+
+// Returns what follows the part with which a text begins: its first line, or all lines of a value.
+pub fn behind_part(text: &[u16]) -> &[u16]
+    ensures within { length result.now ≤ length text.now }
+    ensures progress { 0 < length text.now → length result.now < length text.now }
+{
+    let line = first_line(text);
+    let Some(found) = assignment_of(without_blanks(line.units)) else {
+        return line.rest;
+    };
+    let left = text.len().saturating_sub(line.units.len());
+    if let Some(string) = after(found.data, "\"") {
+        let string = last_units(text, left.saturating_add(string.len()));
+        return behind_string(string).unwrap_or(line.rest);
+    }
+    match typed_bytes(found.data) {
+        Some((_, digits)) => behind_bytes(last_units(text, left.saturating_add(digits.len()))),
+        None => line.rest,
+    }
+}

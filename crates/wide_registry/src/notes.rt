@@ -1,0 +1,49 @@
+//! The damages of a part while it is read.
+
+ghost use Rattle.std.specs.Prelude.{◌≡◌, ◌≤◌, All, length};
+
+use crate::damage::{Damage, Kind};
+use crate::line::{FEED, RETURN};
+use std::alloc::Global;
+use wide_error::OutOfMemory;
+
+// The damages of a part of this length.
+#[derive(Drop)]
+pub struct Notes<'a> {
+    pub len: usize,
+    pub damages: Vec<Damage<'a>>,
+    ghost within: { All (λ damage. damage.unit ≤ len) damages.items },
+}
+
+impl<'a> Notes<'a> {
+    pub fn new(alloc: Global, part: &[u16]) -> Notes<'a>
+        ensures { result.len ≡ length part.now }
+    {
+        Notes {
+            len: part.len(),
+            damages: Vec::new(alloc),
+        }
+    }
+
+    // Adds a damage that is before the last `left` units of the part.
+    pub fn push(&mut self, left: usize, kind: Kind<'a>) -> Result<(), OutOfMemory>
+        ensures { self.new.len ≡ self.old.len }
+    {
+        let unit = self.len.saturating_sub(left);
+        self.damages.push(Damage { unit, kind })?;
+        Ok(())
+    }
+
+    // Notes a line end that is not CR LF. It is before the last `left` units of the part.
+    pub fn push_end(&mut self, end: &[u16], left: usize) -> Result<(), OutOfMemory>
+        ensures { self.new.len ≡ self.old.len }
+    {
+        let kind = match end {
+            [RETURN, FEED] => return Ok(()),
+            [RETURN] => Kind::Return,
+            [FEED] => Kind::Feed,
+            _ => Kind::NoLineEnd,
+        };
+        self.push(left.saturating_add(end.len()), kind)
+    }
+}

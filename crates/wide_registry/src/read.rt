@@ -1,0 +1,217 @@
+//! What a part says, and what is damaged in it.
+
+ghost use Rattle.std.specs.Prelude.{◌≡◌};
+
+use crate::bytes::{AT, OPENING, SEMICOLON, note_bytes, split_comment};
+use crate::damage::Kind;
+use crate::entry::{Data, Entry, Key, Value, assignment_of, header_of, number_of, typed_bytes};
+use crate::line::{
+    after, first_line, last_units, without_blanks, without_end, without_last_blanks,
+};
+use crate::notes::Notes;
+use crate::root::{has_known_root, root_of};
+use crate::string::{QUOTE, closing_quote, note_escapes};
+use wide_error::OutOfMemory;
+use wide_ustr::U16Str;
+
+const CLOSING: u16 = b']' as u16;
+
+const NUMBER_SIGN: u16 = b'#' as u16;
+
+// Where a part is: whether it is the first one, and whether a key is above it.
+#[derive(Clone, Copy)]
+pub struct Context {
+    pub is_first: bool,
+    pub has_key: bool,
+}
+
+// Returns whether only blanks and a comment follow data.
+fn is_over(behind: &[u16]) -> bool {
+    matches!(without_blanks(behind), [] | [SEMICOLON, ..])
+}
+
+// Reads a key. `key` is what follows its bracket, before the last `left` units of the part.
+fn read_key<'a>(
+    notes: &mut Notes<'a>,
+    key: &'a [u16],
+    left: usize,
+) -> Result<Entry<'a>, OutOfMemory>
+    ensures { notes.new.len ≡ notes.old.len }
+{
+    let from_key = left.saturating_add(key.len());
+    let path = match key.iter().rposition(|unit| *unit == CLOSING) {
+        Some(at) => key.split_at(at).0,
+        None => &[],
+    };
+    if path.len() > without_blanks(path).len() || path.len() == key.len() {
+        notes.push(from_key.saturating_add(1), Kind::NoKey)?;
+        return Ok(Entry::None);
+    }
+    let (path, is_deleted) = match after(path, "-") {
+        Some(path) => (path, true),
+        None => (path, false),
+    };
+    if path.is_empty() {
+        notes.push(from_key.saturating_add(1), Kind::NoKey)?;
+    } else if !has_known_root(path) {
+        let from_root = from_key.saturating_sub(usize::from(is_deleted));
+        notes.push(from_root, Kind::UnknownRoot(root_of(path)))?;
+    }
+    Ok(Entry::Key(Key { path, is_deleted }))
+}
+
+// Reads a string. `text` is what follows its quote, all that is left of the part.
+fn read_string<'a>(notes: &mut Notes<'a>, text: &'a [u16]) -> Result<Data<'a>, OutOfMemory>
+    ensures { notes.new.len ≡ notes.old.len }
+{
+    let Some(at) = closing_quote(text) else {
+        let line = first_line(text);
+        let left = text.len().saturating_sub(line.units.len());
+        notes.push(text.len(), Kind::NoStringEnd)?;
+        note_escapes(notes, line.units, left)?;
+        return Ok(Data::None);
+    };
+    let (string, behind) = text.split_at(at);
+    note_escapes(notes, string, behind.len())?;
+    let behind = last_units(behind, behind.len().saturating_sub(1));
+    let line = first_line(behind);
+    if is_over(line.units) {
+        return Ok(Data::Text(string));
+    }
+    let left = behind.len().saturating_sub(line.units.len());
+    let from_more = left.saturating_add(without_blanks(line.units).len());
+    notes.push(from_more, Kind::BehindString)?;
+    Ok(Data::None)
+}
+
+// Reads a number. `digits` is what follows the colon in its line.
+fn read_number<'a>(digits: &[u16]) -> Data<'a> {
+    let digits = without_last_blanks(split_comment(digits).0);
+    match number_of(without_blanks(digits)) {
+        Some(number) => Data::Number(number),
+        None => Data::None,
+    }
+}
+
+// Reads what follows `=` in its line, before the last `left` units of the part.
+fn read_data<'a>(
+    notes: &mut Notes<'a>,
+    part: &'a [u16],
+    data: &'a [u16],
+    left: usize,
+) -> Result<Data<'a>, OutOfMemory>
+    ensures { notes.new.len ≡ notes.old.len }
+{
+    if let Some(string) = after(data, "\"") {
+        return read_string(notes, last_units(part, left.saturating_add(string.len())));
+    }
+    if let Some((kind, digits)) = typed_bytes(data) {
+        let digits = last_units(part, left.saturating_add(digits.len()));
+        note_bytes(notes, digits)?;
+        return Ok(Data::Bytes(kind, digits));
+    }
+    let from_data = left.saturating_add(data.len());
+    if let Some(digits) = after(data, "dword:") {
+        let number = read_number(digits);
+        if matches!(number, Data::None) {
+            notes.push(from_data, Kind::NoNumber)?;
+        }
+        return Ok(number);
+    }
+    match after(data, "-") {
+        Some(behind) if is_over(behind) => Ok(Data::Deleted),
+        _ => {
+            notes.push(from_data, Kind::NoData)?;
+            Ok(Data::None)
+        }
+    }
+}
+
+// Reads a value. `line` is its first line, before the last `left` units of the part.
+fn read_value<'a>(
+    notes: &mut Notes<'a>,
+    part: &'a [u16],
+    line: &'a [u16],
+    left: usize,
+) -> Result<Entry<'a>, OutOfMemory>
+    ensures { notes.new.len ≡ notes.old.len }
+{
+    let from_line = left.saturating_add(line.len());
+    let Some(found) = assignment_of(line) else {
+        notes.push(from_line, Kind::NoName)?;
+        return Ok(Entry::None);
+    };
+    if let Some(name) = found.name {
+        let behind = from_line.saturating_sub(name.len()).saturating_sub(1);
+        note_escapes(notes, name, behind)?;
+    }
+    let data = read_data(notes, part, found.data, left)?;
+    Ok(Entry::Value(Value {
+        name: found.name,
+        data,
+    }))
+}
+
+// Reads the first line of a part, and the lines that belong to it.
+fn read_entry<'a>(
+    notes: &mut Notes<'a>,
+    part: &'a [u16],
+    context: Context,
+) -> Result<Entry<'a>, OutOfMemory>
+    ensures { notes.new.len ≡ notes.old.len }
+{
+    let units = first_line(part).units;
+    let left = part.len().saturating_sub(units.len());
+    if context.is_first {
+        if let Some(header) = header_of(units) {
+            return Ok(Entry::Header(header));
+        }
+        notes.push(part.len(), Kind::NoHeader)?;
+    }
+    let line = without_blanks(units);
+    let from_line = left.saturating_add(line.len());
+    match line {
+        [] | [SEMICOLON | NUMBER_SIGN, ..] => Ok(Entry::None),
+        [OPENING, key @ ..] => read_key(notes, key, left),
+        [AT | QUOTE, ..] => {
+            if !context.has_key {
+                notes.push(from_line, Kind::NoKeyAbove)?;
+            }
+            read_value(notes, part, line, left)
+        }
+        _ => {
+            notes.push(from_line, Kind::NoEntry)?;
+            Ok(Entry::None)
+        }
+    }
+}
+
+// Notes each surrogate that belongs to no pair, and each NUL.
+fn note_units(notes: &mut Notes<'_>, part: &[u16]) -> Result<(), OutOfMemory>
+    ensures { notes.new.len ≡ notes.old.len }
+{
+    for (unit, item) in U16Str::from_slice(part).char_indices() {
+        let kind = match item {
+            Err(fault) => Kind::Fault(fault.unpaired_surrogate()),
+            Ok('\0') => Kind::Nul,
+            Ok(_) => continue,
+        };
+        notes.push(part.len().saturating_sub(unit), kind)?;
+    }
+    Ok(())
+}
+
+// Reads a part, and notes what is damaged in it.
+pub fn read_part<'a>(
+    notes: &mut Notes<'a>,
+    part: &'a [u16],
+    context: Context,
+) -> Result<Entry<'a>, OutOfMemory>
+    ensures { notes.new.len ≡ notes.old.len }
+{
+    let entry = read_entry(notes, part, context)?;
+    let end = part.len().saturating_sub(without_end(part).len());
+    notes.push_end(last_units(part, end), 0)?;
+    note_units(notes, part)?;
+    Ok(entry)
+}
