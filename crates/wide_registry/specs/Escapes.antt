@@ -1,5 +1,5 @@
--- What the text of a string means.
-use Rattle.std.specs.Prelude.{ℕ, List, [], ◌∷◌, if◌then◌else◌, ◌==◌}
+-- What the text of a string in quotes means, and where it ends.
+use Rattle.std.specs.Prelude.{ℕ, List, [], ◌∷◌, Bool, true, false, if◌then◌else◌, ◌==◌}
 
 -- What a unit after a backslash means: `n` and `r` are line ends, and others are themselves.
 abbrev pub meaning_of : ℕ → ℕ
@@ -11,3 +11,10 @@ unescaped [] = []
 unescaped (unit ∷ []) = unit ∷ []
 unescaped (unit ∷ next ∷ rest) =
     if unit == 0x5c then meaning_of next ∷ unescaped rest else unit ∷ unescaped (next ∷ rest)
+
+-- Whether a text has a quote that no backslash escapes.
+abbrev pub has_quote : List ℕ → Bool
+has_quote [] = false
+has_quote (unit ∷ []) = unit == 0x22
+has_quote (unit ∷ next ∷ rest) =
+    if unit == 0x5c then has_quote rest else if unit == 0x22 then true else has_quote (next ∷ rest)

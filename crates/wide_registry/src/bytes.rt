@@ -1,9 +1,9 @@
 //! The bytes of a value.
 
-ghost use Rattle.std.specs.Prelude.{◌≡◌, ◌<◌, ◌≤◌, ◌+◌, ◌*◌, IfNone, IfOk, IfSome, length, vec_len};
-ghost use Rattle.std.specs.Char.{digit_value};
+ghost use Rattle.std.specs.Prelude.{◌≡◌, ◌<◌, ◌≤◌, ◌+◌, ◌*◌, IfOk, IfSome, length, vec_len};
 
 use crate::damage::Kind;
+use crate::digits::byte_of;
 use crate::line::{first_line, last_units, without_blanks, without_last_blanks};
 use crate::notes::Notes;
 use crate::string::{BACKSLASH, QUOTE};
@@ -40,7 +40,7 @@ pub fn split_comment(line: &[u16]) -> (&[u16], &[u16])
 // Returns the bytes before the backslash at which a line ends, if it may be there: behind a comma, or alone in the first
 // line.
 fn before_backslash(data: &[u16], is_first: bool) -> Option<&[u16]>
-    ensures { IfSome result (λ body. length body.now ≤ length data.now) }
+    ensures { IfSome result (λ body. length body.now ≤ length «data».now) }
 {
     let [body @ .., BACKSLASH] = data else {
         return None;
@@ -121,23 +121,6 @@ pub fn behind_bytes(text: &[u16]) -> &[u16]
     line.rest
 }
 
-// Returns the value of a hexadecimal digit.
-fn digit(unit: u16) -> Option<u8>
-    ensures { IfSome result (λ digit. (digit < 16) × (digit ≡ digit_value unit)) }
-{
-    let digit = char::from_u32(u32::from(unit))?.to_digit(16)?;
-    u8::try_from(digit).ok()
-}
-
-/// Returns the byte of one or two hexadecimal digits, or `None` if there are none or others.
-pub fn byte_of(piece: &[u16]) -> Option<u8> {
-    match piece {
-        [only] => digit(*only),
-        [high, low] => Some(digit(*high)? * 16 + digit(*low)?),
-        _ => None,
-    }
-}
-
 /// Returns the first piece without the blanks before it, and the pieces behind the comma that follows it.
 pub fn split_piece(pieces: &[u16]) -> (&[u16], Option<&[u16]>)
     ensures behind { IfSome result.1 (λ rest. length result.0.now + 1 + length rest.now ≤ length pieces.now) }
@@ -154,17 +137,21 @@ pub fn split_piece(pieces: &[u16]) -> (&[u16], Option<&[u16]>)
 }
 
 // Adds the bytes of a line, and returns whether all of it are bytes.
-fn push_bytes(bytes: &mut Vec<u8>, pieces: Option<&[u16]>) -> Result<bool, OutOfMemory> {
-    let mut left = pieces;
-    while let Some(pieces) = left {
-        let (piece, rest) = split_piece(pieces);
+fn push_bytes(bytes: &mut Vec<u8>, pieces: &[u16]) -> Result<bool, OutOfMemory>
+    ensures { IfOk result (λ _. 2 * vec_len bytes.new ≤ 2 * vec_len bytes.old + length pieces.now + 1) }
+{
+    let mut rest = pieces;
+    loop {
+        let (piece, behind) = split_piece(rest);
         match byte_of(piece) {
             Some(byte) => bytes.push(byte)?,
             None => return Ok(false),
         }
-        left = rest;
+        match behind {
+            Some(behind) => rest = behind,
+            None => return Ok(true),
+        }
     }
-    Ok(true)
 }
 
 /// Returns the bytes of a value, or `None` if something in it is no byte or no bytes follow where it goes on. The digits
@@ -184,7 +171,9 @@ pub fn bytes_of(alloc: Global, digits: &[u16]) -> Result<Option<Vec<u8>>, OutOfM
         let line = first_line(rest);
         if is_first || !is_silent(line.units) {
             let parts = ByteLine::of(line.units, is_first);
-            if !push_bytes(&mut bytes, parts.pieces)? {
+            if let Some(pieces) = parts.pieces
+                && !push_bytes(&mut bytes, pieces)?
+            {
                 return Ok(None);
             }
             goes_on = parts.goes_on;
@@ -196,24 +185,22 @@ pub fn bytes_of(alloc: Global, digits: &[u16]) -> Result<Option<Vec<u8>>, OutOfM
 }
 
 // Notes each piece of a line that is no byte. The pieces are before the last `left` units of their part.
-fn note_pieces<'a>(
-    notes: &mut Notes<'a>,
-    pieces: Option<&'a [u16]>,
-    left: usize,
-) -> Result<(), OutOfMemory>
+fn note_pieces<'a>(notes: &mut Notes<'a>, pieces: &'a [u16], left: usize) -> Result<(), OutOfMemory>
     ensures { notes.new.len ≡ notes.old.len }
 {
-    let mut left_pieces = pieces;
-    while let Some(pieces) = left_pieces {
-        let (piece, rest) = split_piece(pieces);
+    let mut rest = pieces;
+    loop {
+        let (piece, behind) = split_piece(rest);
         if byte_of(piece).is_none() {
-            let behind = rest.map_or(0, |rest| rest.len().saturating_add(1));
-            let from_piece = piece.len().saturating_add(behind);
+            let len = behind.map_or(0, |behind| behind.len().saturating_add(1));
+            let from_piece = piece.len().saturating_add(len);
             notes.push(left.saturating_add(from_piece), Kind::NoByte(piece))?;
         }
-        left_pieces = rest;
+        match behind {
+            Some(behind) => rest = behind,
+            None => return Ok(()),
+        }
     }
-    Ok(())
 }
 
 // Returns how many units of a line are from its last backslash on. A comment is no part of it.
@@ -236,17 +223,20 @@ pub fn note_bytes<'a>(notes: &mut Notes<'a>, digits: &'a [u16]) -> Result<(), Ou
         if is_first || !is_silent(line.units) {
             let parts = ByteLine::of(line.units, is_first);
             let left = rest.len().saturating_sub(line.units.len());
-            let data = without_blanks(line.units).len();
-            let behind = data.saturating_sub(parts.pieces.map_or(0, |pieces| pieces.len()));
-            note_pieces(notes, parts.pieces, left.saturating_add(behind))?;
-            if !line.rest.is_empty() {
-                notes.push_end(line.end, line.rest.len())?;
+            if let Some(pieces) = parts.pieces {
+                let behind = without_blanks(line.units)
+                    .len()
+                    .saturating_sub(pieces.len());
+                note_pieces(notes, pieces, left.saturating_add(behind))?;
             }
             from_backslash = if parts.goes_on {
                 Some(left.saturating_add(len_from_backslash(line.units)))
             } else {
                 None
             };
+        }
+        if !line.rest.is_empty() {
+            notes.push_end(line.end, line.rest.len())?;
         }
         is_first = false;
         rest = line.rest;

@@ -3,6 +3,7 @@
 ghost use Rattle.std.specs.Prelude.{◌≡◌, ◌<◌, ◌≤◌, IfSome, length};
 
 use crate::bytes::{AT, behind_bytes};
+use crate::digits::number_of;
 use crate::line::{after, first_line, is_text, last_units, without_blanks, without_marks};
 use crate::string::{QUOTE, closing_quote};
 
@@ -104,22 +105,9 @@ pub fn assignment_of(line: &[u16]) -> Option<Assignment<'_>>
     Some(Assignment { name, data })
 }
 
-// Returns the number of one to eight hexadecimal digits.
-pub fn number_of(digits: &[u16]) -> Option<u32> {
-    if digits.is_empty() || digits.len() > 8 {
-        return None;
-    }
-    let mut number: u32 = 0;
-    for unit in digits {
-        let digit = char::from_u32(u32::from(*unit))?.to_digit(16)?;
-        number = number.wrapping_mul(16).wrapping_add(digit);
-    }
-    Some(number)
-}
-
 // Returns the type and the bytes, if data begin like bytes.
 pub fn typed_bytes(data: &[u16]) -> Option<(u32, &[u16])>
-    ensures { IfSome result (λ bytes. length bytes.1.now ≤ length data.now) }
+    ensures { IfSome result (λ bytes. length bytes.1.now ≤ length «data».now) }
 {
     let rest = after(data, "hex")?;
     let Some(number) = after(rest, "(") else {

@@ -7,6 +7,7 @@
 
 mod bytes;
 mod damage;
+mod digits;
 mod entry;
 mod export;
 mod line;
@@ -16,8 +17,9 @@ mod read;
 mod root;
 mod string;
 
-pub use bytes::{ByteLine, byte_of, bytes_of, split_piece};
+pub use bytes::{ByteLine, bytes_of, split_piece};
 pub use damage::{Damage, Kind};
+pub use digits::byte_of;
 pub use entry::{Data, Entry, Header, Key, Value};
 pub use export::{Export, Part};
 pub use line::{Line, first_line, without_end, without_marks};

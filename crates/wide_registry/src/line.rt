@@ -1,6 +1,6 @@
 //! Lines, and what they begin and end with.
 
-ghost use Rattle.std.specs.Prelude.{◌≡◌, ◌<◌, ◌≤◌, ◌+◌, ◌++◌, IfSome, length};
+ghost use Rattle.std.specs.Prelude.{◌≡◌, ◌<◌, ◌≤◌, ◌+◌, ◌-◌, ◌++◌, IfSome, drop, length, min};
 
 pub const RETURN: u16 = b'\r' as u16;
 
@@ -27,6 +27,8 @@ pub struct Line<'a> {
 /// Returns the first line of a text. A carriage return alone ends a line too.
 pub fn first_line(text: &[u16]) -> Line<'_>
     ensures parts { text.now ≡ result.units.now ++ result.end.now ++ result.rest.now }
+    ensures lengths { length result.units.now + length result.end.now + length result.rest.now ≡ length text.now }
+    ensures ended { 0 < length result.rest.now → 0 < length result.end.now }
     ensures progress { 0 < length text.now → length result.rest.now < length text.now }
 {
     let len = text
@@ -38,12 +40,15 @@ pub fn first_line(text: &[u16]) -> Line<'_>
     Line { units, end, rest }
 }
 
-// Returns the length of the line end that a text begins with.
-fn end_len(text: &[u16]) -> usize {
+// Returns the length of the line end that a text begins with, if there is a text.
+fn end_len(text: &[u16]) -> usize
+    ensures within { result ≤ length text.now }
+    ensures some { 0 < length text.now → 0 < result }
+{
     match text {
         [RETURN, FEED, ..] => 2,
-        [RETURN | FEED, ..] => 1,
-        _ => 0,
+        [_, ..] => 1,
+        [] => 0,
     }
 }
 
@@ -91,18 +96,17 @@ pub fn without_marks(units: &[u16]) -> &[u16]
 
 // Returns the units after an ASCII text, if they begin with it.
 pub fn after<'a>(units: &'a [u16], text: &str) -> Option<&'a [u16]>
-    ensures { IfSome result (λ rest. units.now ≡ text.now ++ rest.now) }
+    ensures parts { IfSome result (λ rest. units.now ≡ text.now ++ rest.now) }
+    ensures within { IfSome result (λ rest. length rest.now ≤ length units.now) }
 {
-    if units.len() < text.len() {
-        return None;
+    let mut rest = units;
+    for byte in text.as_bytes() {
+        match rest {
+            [unit, others @ ..] if *unit == u16::from(*byte) => rest = others,
+            _ => return None,
+        }
     }
-    let (first, rest) = units.split_at(text.len());
-    let mut bytes = text.as_bytes().iter();
-    if first.iter().all(|unit| bytes.next().is_some_and(|byte| *unit == u16::from(*byte))) {
-        Some(rest)
-    } else {
-        None
-    }
+    Some(rest)
 }
 
 // Returns whether units are an ASCII text.
@@ -110,9 +114,10 @@ pub fn is_text(units: &[u16], text: &str) -> bool {
     after(units, text).is_some_and(|rest| rest.is_empty())
 }
 
-// Returns the last units of a text, of this length.
+// Returns the last units of a text, at most so many.
 pub fn last_units(text: &[u16], len: usize) -> &[u16]
-    ensures { length result.now ≤ length text.now }
+    ensures units { result.now ≡ drop (length text.now - len) text.now }
+    ensures len { length result.now ≡ min len (length text.now) }
 {
     text.split_at(text.len().saturating_sub(len)).1
 }

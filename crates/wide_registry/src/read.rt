@@ -4,9 +4,10 @@ ghost use Rattle.std.specs.Prelude.{◌≡◌};
 
 use crate::bytes::{AT, OPENING, SEMICOLON, note_bytes, split_comment};
 use crate::damage::Kind;
-use crate::entry::{Data, Entry, Key, Value, assignment_of, header_of, number_of, typed_bytes};
+use crate::digits::number_of;
+use crate::entry::{Data, Entry, Key, Value, assignment_of, header_of, typed_bytes};
 use crate::line::{
-    after, first_line, last_units, without_blanks, without_end, without_last_blanks,
+    after, first_line, is_blank, last_units, without_blanks, without_end, without_last_blanks,
 };
 use crate::notes::Notes;
 use crate::root::{has_known_root, root_of};
@@ -30,6 +31,16 @@ fn is_over(behind: &[u16]) -> bool {
     matches!(without_blanks(behind), [] | [SEMICOLON, ..])
 }
 
+// Returns what is between brackets, if it does not begin with a blank. The last bracket of a line is the second one.
+fn path_of(key: &[u16]) -> Option<&[u16]> {
+    let at = key.iter().rposition(|unit| *unit == CLOSING)?;
+    let (path, _) = key.split_at(at);
+    match path {
+        [first, ..] if is_blank(*first) => None,
+        _ => Some(path),
+    }
+}
+
 // Reads a key. `key` is what follows its bracket, before the last `left` units of the part.
 fn read_key<'a>(
     notes: &mut Notes<'a>,
@@ -39,20 +50,17 @@ fn read_key<'a>(
     ensures { notes.new.len ≡ notes.old.len }
 {
     let from_key = left.saturating_add(key.len());
-    let path = match key.iter().rposition(|unit| *unit == CLOSING) {
-        Some(at) => key.split_at(at).0,
-        None => &[],
-    };
-    if path.len() > without_blanks(path).len() || path.len() == key.len() {
-        notes.push(from_key.saturating_add(1), Kind::NoKey)?;
+    let from_bracket = from_key.saturating_add(1);
+    let Some(path) = path_of(key) else {
+        notes.push(from_bracket, Kind::NoKey)?;
         return Ok(Entry::None);
-    }
+    };
     let (path, is_deleted) = match after(path, "-") {
         Some(path) => (path, true),
         None => (path, false),
     };
     if path.is_empty() {
-        notes.push(from_key.saturating_add(1), Kind::NoKey)?;
+        notes.push(from_bracket, Kind::NoKey)?;
     } else if !has_known_root(path) {
         let from_root = from_key.saturating_sub(usize::from(is_deleted));
         notes.push(from_root, Kind::UnknownRoot(root_of(path)))?;

@@ -1,7 +1,7 @@
 //! Strings in quotes.
 
-ghost use Rattle.std.specs.Prelude.{◌≡◌, ◌<◌, IfOk, IfSome, length, slice_index};
-ghost use Rattle.wide_registry.specs.Escapes.{unescaped};
+ghost use Rattle.std.specs.Prelude.{◌≡◌, ◌<◌, ◌+◌, IfNone, IfOk, IfSome, false, length, take, true};
+ghost use Rattle.wide_registry.specs.Escapes.{has_quote, meaning_of, unescaped};
 
 use crate::damage::Kind;
 use crate::line::{FEED, RETURN};
@@ -13,37 +13,41 @@ pub const QUOTE: u16 = b'"' as u16;
 
 pub const BACKSLASH: u16 = b'\\' as u16;
 
-// The units that may follow a backslash, and what they mean.
-static ESCAPES: [(u16, u16); 4] = [
-    (QUOTE, QUOTE),
-    (BACKSLASH, BACKSLASH),
-    (b'n' as u16, FEED),
-    (b'r' as u16, RETURN),
-];
+const SMALL_N: u16 = b'n' as u16;
+
+const SMALL_R: u16 = b'r' as u16;
 
 // Returns the offset of the quote that ends a string. A quote after a backslash does not.
 pub fn closing_quote(text: &[u16]) -> Option<usize>
     ensures within { IfSome result (λ offset. offset < length text.now) }
-    ensures quote { IfSome result (λ offset. slice_index text.now offset ≡ QUOTE) }
+    ensures first { IfSome result (λ offset. has_quote (take offset text.now) ≡ false) }
+    ensures quote { IfSome result (λ offset. has_quote (take (offset + 1) text.now) ≡ true) }
+    ensures none { IfNone result (has_quote text.now ≡ false) }
 {
     let mut is_escaped = false;
     for (offset, unit) in text.iter().enumerate() {
-        if !is_escaped && *unit == QUOTE {
+        if is_escaped {
+            is_escaped = false;
+        } else if *unit == QUOTE {
             return Some(offset);
+        } else if *unit == BACKSLASH {
+            is_escaped = true;
         }
-        is_escaped = !is_escaped && *unit == BACKSLASH;
     }
     None
 }
 
 // Returns what a unit after a backslash means, if it may be there.
-fn escaped(unit: u16) -> Option<u16> {
-    for (written, meant) in &ESCAPES {
-        if *written == unit {
-            return Some(*meant);
-        }
+fn escaped(unit: u16) -> Option<u16>
+    ensures some { IfSome result (λ meant. meant ≡ meaning_of unit) }
+    ensures none { IfNone result (meaning_of unit ≡ unit) }
+{
+    match unit {
+        QUOTE | BACKSLASH => Some(unit),
+        SMALL_N => Some(FEED),
+        SMALL_R => Some(RETURN),
+        _ => None,
     }
-    None
 }
 
 /// Returns the text of a string, as it is written between its quotes: `\\`, `\"`, `\n` and `\r` are escapes. A backslash
