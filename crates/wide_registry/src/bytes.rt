@@ -1,10 +1,12 @@
 //! The bytes of a value.
 
-ghost use Rattle.std.specs.Prelude.{◌≡◌, ◌<◌, ◌≤◌, ◌+◌, ◌*◌, IfOk, IfSome, length, vec_len};
+ghost use Rattle.std.specs.Prelude.{◌≡◌, ◌<◌, ◌≤◌, ◌+◌, ◌*◌, ◌==◌, IfOk, IfSome, length, vec_len};
+ghost use Rattle.std.specs.List.{before_first};
+ghost use Rattle.wide_registry.specs.Lines.{without_blanks};
 
 use crate::damage::Kind;
 use crate::digits::byte_of;
-use crate::line::{first_line, last_units, without_blanks, without_last_blanks};
+use crate::line::{first_line, split_before, without_blanks, without_last_blanks};
 use crate::notes::Notes;
 use crate::string::{BACKSLASH, QUOTE};
 use std::alloc::Global;
@@ -29,14 +31,6 @@ pub struct ByteLine<'a> {
     pub comment: &'a [u16],
 }
 
-// Returns the units before a comment, and the comment.
-pub fn split_comment(line: &[u16]) -> (&[u16], &[u16])
-    ensures { length result.0.now + length result.1.now ≡ length line.now }
-{
-    let at = line.iter().position(|unit| *unit == SEMICOLON);
-    line.split_at(at.unwrap_or(line.len()))
-}
-
 // Returns the bytes before the backslash at which a line ends, if it may be there: behind a comma, or alone in the first
 // line.
 fn before_backslash(data: &[u16], is_first: bool) -> Option<&[u16]>
@@ -58,7 +52,7 @@ impl<'a> ByteLine<'a> {
     pub fn of(line: &'a [u16], is_first: bool) -> ByteLine<'a>
         ensures { IfSome result.pieces (λ pieces. length pieces.now ≤ length line.now) }
     {
-        let (data, comment) = split_comment(without_blanks(line));
+        let (data, comment) = split_before(without_blanks(line), SEMICOLON);
         let data = without_last_blanks(data);
         let before = before_backslash(data, is_first);
         ByteLine {
@@ -123,17 +117,16 @@ pub fn behind_bytes(text: &[u16]) -> &[u16]
 
 /// Returns the first piece without the blanks before it, and the pieces behind the comma that follows it.
 pub fn split_piece(pieces: &[u16]) -> (&[u16], Option<&[u16]>)
+    ensures first { result.0.now ≡ without_blanks (before_first (λ unit. unit == COMMA) pieces.now) }
     ensures behind { IfSome result.1 (λ rest. length result.0.now + 1 + length rest.now ≤ length pieces.now) }
-    ensures first { length result.0.now ≤ length pieces.now }
+    ensures within { length result.0.now ≤ length pieces.now }
 {
-    let Some(at) = pieces.iter().position(|unit| *unit == COMMA) else {
-        return (without_blanks(pieces), None);
-    };
-    let (piece, rest) = pieces.split_at(at);
-    (
-        without_blanks(piece),
-        Some(last_units(rest, rest.len().saturating_sub(1))),
-    )
+    let (piece, behind) = split_before(pieces, COMMA);
+    let piece = without_blanks(piece);
+    match behind {
+        [_, rest @ ..] => (piece, Some(rest)),
+        [] => (piece, None),
+    }
 }
 
 // Adds the bytes of a line, and returns whether all of it are bytes.
@@ -205,7 +198,7 @@ fn note_pieces<'a>(notes: &mut Notes<'a>, pieces: &'a [u16], left: usize) -> Res
 
 // Returns how many units of a line are from its last backslash on. A comment is no part of it.
 fn len_from_backslash(line: &[u16]) -> usize {
-    let (data, comment) = split_comment(line);
+    let (data, comment) = split_before(line, SEMICOLON);
     let at = data.iter().rposition(|unit| *unit == BACKSLASH);
     let len = data.len().saturating_sub(at.unwrap_or(0));
     len.saturating_add(comment.len())

@@ -4,7 +4,9 @@ ghost use Rattle.std.specs.Prelude.{◌≡◌, ◌<◌, ◌≤◌, IfSome, lengt
 
 use crate::bytes::{AT, behind_bytes};
 use crate::digits::number_of;
-use crate::line::{after, first_line, is_text, last_units, without_blanks, without_marks};
+use crate::line::{
+    after, first_line, is_text, last_units, split_before, without_blanks, without_marks,
+};
 use crate::string::{QUOTE, closing_quote};
 
 /// The first line of a file, which says how the rest is written.
@@ -113,8 +115,7 @@ pub fn typed_bytes(data: &[u16]) -> Option<(u32, &[u16])>
     let Some(number) = after(rest, "(") else {
         return Some((BINARY, after(rest, ":")?));
     };
-    let at = number.iter().position(|unit| *unit == b')' as u16)?;
-    let (digits, behind) = number.split_at(at);
+    let (digits, behind) = split_before(number, b')' as u16);
     Some((number_of(digits)?, after(behind, "):")?))
 }
 

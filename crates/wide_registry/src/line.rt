@@ -1,6 +1,8 @@
 //! Lines, and what they begin and end with.
 
-ghost use Rattle.std.specs.Prelude.{◌≡◌, ◌<◌, ◌≤◌, ◌+◌, ◌-◌, ◌++◌, IfSome, drop, length, min};
+ghost use Rattle.std.specs.Prelude.{◌≡◌, ◌<◌, ◌≤◌, ◌+◌, ◌-◌, ◌++◌, ◌==◌, IfSome, drop, length, min, not, position, take};
+ghost use Rattle.std.specs.List.{before_first};
+ghost use Rattle.wide_registry.specs.Lines.{is_blank, is_line_end, line_end, without_blanks};
 
 pub const RETURN: u16 = b'\r' as u16;
 
@@ -24,17 +26,27 @@ pub struct Line<'a> {
     pub rest: &'a [u16],
 }
 
+// Returns the offset of the first line end.
+fn offset_of_end(text: &[u16]) -> Option<usize>
+    ensures { result ≡ position is_line_end text.now }
+{
+    text.iter()
+        .position(|unit| *unit == RETURN || *unit == FEED)
+}
+
 /// Returns the first line of a text. A carriage return alone ends a line too.
 pub fn first_line(text: &[u16]) -> Line<'_>
+    ensures line { result.units.now ≡ before_first is_line_end text.now }
+    ensures end { result.end.now ≡ line_end (result.end.now ++ result.rest.now) }
     ensures parts { text.now ≡ result.units.now ++ result.end.now ++ result.rest.now }
     ensures lengths { length result.units.now + length result.end.now + length result.rest.now ≡ length text.now }
     ensures ended { 0 < length result.rest.now → 0 < length result.end.now }
     ensures progress { 0 < length text.now → length result.rest.now < length text.now }
 {
-    let len = text
-        .iter()
-        .position(|unit| *unit == RETURN || *unit == FEED)
-        .unwrap_or(text.len());
+    let len = match offset_of_end(text) {
+        Some(offset) => offset,
+        None => text.len(),
+    };
     let (units, behind) = text.split_at(len);
     let (end, rest) = behind.split_at(end_len(behind));
     Line { units, end, rest }
@@ -44,6 +56,7 @@ pub fn first_line(text: &[u16]) -> Line<'_>
 fn end_len(text: &[u16]) -> usize
     ensures within { result ≤ length text.now }
     ensures some { 0 < length text.now → 0 < result }
+    ensures end { take result text.now ≡ line_end text.now }
 {
     match text {
         [RETURN, FEED, ..] => 2,
@@ -53,16 +66,26 @@ fn end_len(text: &[u16]) -> usize
 }
 
 // Returns whether a unit is a blank: a space, a tab, or U+FEFF.
-pub fn is_blank(unit: u16) -> bool {
+pub fn is_blank(unit: u16) -> bool
+    ensures { result ≡ is_blank unit }
+{
     matches!(unit, SPACE | TAB | MARK)
+}
+
+// Returns the offset of the first unit that is no blank.
+fn offset_of_other(line: &[u16]) -> Option<usize>
+    ensures { result ≡ position (λ unit. not (is_blank unit)) line.now }
+{
+    line.iter().position(|unit| !is_blank(*unit))
 }
 
 // Returns a line without the blanks at its beginning.
 pub fn without_blanks(line: &[u16]) -> &[u16]
-    ensures { length result.now ≤ length line.now }
+    ensures blanks { result.now ≡ without_blanks line.now }
+    ensures within { length result.now ≤ length line.now }
 {
-    match line.iter().position(|unit| !is_blank(*unit)) {
-        Some(at) => line.split_at(at).1,
+    match offset_of_other(line) {
+        Some(offset) => line.split_at(offset).1,
         None => &[],
     }
 }
@@ -92,6 +115,25 @@ pub fn without_marks(units: &[u16]) -> &[u16]
         None => return &[],
     };
     units.get(at..end).unwrap_or_default()
+}
+
+// Returns the offset of the first unit of this number.
+fn offset_of(units: &[u16], unit: u16) -> Option<usize>
+    ensures { result ≡ position (λ other. other == unit) units.now }
+{
+    units.iter().position(|other| *other == unit)
+}
+
+// Returns what is before the first unit of this number, and what is from it on; or all, and nothing.
+pub fn split_before(units: &[u16], unit: u16) -> (&[u16], &[u16])
+    ensures before { result.0.now ≡ before_first (λ other. other == unit) units.now }
+    ensures parts { units.now ≡ result.0.now ++ result.1.now }
+    ensures lengths { length result.0.now + length result.1.now ≡ length units.now }
+{
+    match offset_of(units, unit) {
+        Some(offset) => units.split_at(offset),
+        None => units.split_at(units.len()),
+    }
 }
 
 // Returns the units after an ASCII text, if they begin with it.

@@ -2,12 +2,13 @@
 
 ghost use Rattle.std.specs.Prelude.{◌≡◌};
 
-use crate::bytes::{AT, OPENING, SEMICOLON, note_bytes, split_comment};
+use crate::bytes::{AT, OPENING, SEMICOLON, note_bytes};
 use crate::damage::Kind;
 use crate::digits::number_of;
 use crate::entry::{Data, Entry, Key, Value, assignment_of, header_of, typed_bytes};
 use crate::line::{
-    after, first_line, is_blank, last_units, without_blanks, without_end, without_last_blanks,
+    after, first_line, is_blank, last_units, split_before, without_blanks, without_end,
+    without_last_blanks,
 };
 use crate::notes::Notes;
 use crate::root::{has_known_root, root_of};
@@ -94,7 +95,7 @@ fn read_string<'a>(notes: &mut Notes<'a>, text: &'a [u16]) -> Result<Data<'a>, O
 
 // Reads a number. `digits` is what follows the colon in its line.
 fn read_number<'a>(digits: &[u16]) -> Data<'a> {
-    let digits = without_last_blanks(split_comment(digits).0);
+    let digits = without_last_blanks(split_before(digits, SEMICOLON).0);
     match number_of(without_blanks(digits)) {
         Some(number) => Data::Number(number),
         None => Data::None,

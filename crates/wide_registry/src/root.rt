@@ -1,5 +1,11 @@
 //! The roots of a registry.
 
+ghost use Rattle.std.specs.Prelude.{◌≡◌, ◌==◌};
+ghost use Rattle.std.specs.List.{before_first};
+
+use crate::line::split_before;
+use crate::string::BACKSLASH;
+
 // The names that regedit and reg know, of which both lengths are in use.
 static ROOTS: [&str; 12] = [
     "HKEY_LOCAL_MACHINE",
@@ -31,11 +37,10 @@ fn is_in_any_case(units: &[u16], text: &str) -> bool {
 }
 
 // Returns what stands for the root of a key: its name before the first backslash.
-pub fn root_of(key: &[u16]) -> &[u16] {
-    match key.iter().position(|unit| *unit == b'\\' as u16) {
-        Some(at) => key.split_at(at).0,
-        None => key,
-    }
+pub fn root_of(key: &[u16]) -> &[u16]
+    ensures { result.now ≡ before_first (λ unit. unit == BACKSLASH) key.now }
+{
+    split_before(key, BACKSLASH).0
 }
 
 /// Returns whether a key is below one of the roots `HKEY_LOCAL_MACHINE`, `HKEY_CURRENT_USER`, `HKEY_CLASSES_ROOT`,

@@ -40,7 +40,8 @@ overflow_add-value c =
 
 pub loop-unit-preserved : goal.loop-unit-preserved
 loop-unit-preserved c =
-    let digit : c.in_ok-value.field-0 < 16 = rw c.in_ok-value.ensures.value (c.in_ok-value.ensures.some.0 refl) in
-    ( number-more c.args.digits.now c.loop-unit.unit-index c.loop-unit.value c.in_ok-value.field-0 c.loop-unit-test.true c.loop-unit.invariant.0 c.in_ok-value.ensures.value
-    , hex-more c.args.digits.now c.loop-unit.unit-index c.loop-unit-test.true c.loop-unit.invariant.1 (c.in_ok-value.ensures.some.0 refl)
-    , bound c.loop-unit.value c.loop-unit.unit-index c.in_ok-value.field-0 c.loop-unit.invariant.2 digit )
+    let digit : c.in_ok-value.field-0 < 16 = rw c.in_ok-value.ensures.value (c.in_ok-value.ensures.some.0 refl) in (
+      number-more c.args.digits.now c.loop-unit.unit-index c.loop-unit.value c.in_ok-value.field-0 c.loop-unit-test.true c.loop-unit.invariant.0 c.in_ok-value.ensures.value,
+      hex-more c.args.digits.now c.loop-unit.unit-index c.loop-unit-test.true c.loop-unit.invariant.1 (c.in_ok-value.ensures.some.0 refl),
+      bound c.loop-unit.value c.loop-unit.unit-index c.in_ok-value.field-0 c.loop-unit.invariant.2 digit,
+    )

@@ -8,11 +8,11 @@ use Rattle.wide_registry.proofs.string.closing_quote.Goals.{then-is_escaped, els
 pub loop-offset-preserved : goal.loop-offset-preserved
 loop-offset-preserved c =
     elim c.if-is_escaped.branch [
-      then-is_escaped w ↦ more_escaped c.args.text.now c.loop-offset.offset c.loop-offset-test.true w.if-is_escaped.true w.is_escaped-is c.loop-offset.invariant
-    | else-is_escaped+else-unit-eq-QUOTE+then-unit-eq-BACKSLASH w ↦
-        more_backslash c.args.text.now c.loop-offset.offset c.loop-offset-test.true w.if-unit-eq-BACKSLASH.true w.if-is_escaped.false w.is_escaped-is c.loop-offset.invariant
-    | else-is_escaped+else-unit-eq-QUOTE+else-unit-eq-BACKSLASH w ↦
-        more_other c.args.text.now c.loop-offset.offset c.loop-offset-test.true w.if-unit-eq-BACKSLASH.false w.if-unit-eq-QUOTE.false w.if-is_escaped.false w.is_escaped-is c.loop-offset.invariant
+      | then-is_escaped w ↦ more_escaped c.args.text.now c.loop-offset.offset c.loop-offset-test.true w.if-is_escaped.true w.is_escaped-is c.loop-offset.invariant
+      | else-is_escaped+else-unit-eq-QUOTE+then-unit-eq-BACKSLASH w ↦
+          more_backslash c.args.text.now c.loop-offset.offset c.loop-offset-test.true w.if-unit-eq-BACKSLASH.true w.if-is_escaped.false w.is_escaped-is c.loop-offset.invariant
+      | else-is_escaped+else-unit-eq-QUOTE+else-unit-eq-BACKSLASH w ↦
+          more_other c.args.text.now c.loop-offset.offset c.loop-offset-test.true w.if-unit-eq-BACKSLASH.false w.if-unit-eq-QUOTE.false w.if-is_escaped.false w.is_escaped-is c.loop-offset.invariant
     ]
 
 pub returns-then-unit-eq-QUOTE-clause-first : goal.returns-then-unit-eq-QUOTE-clause-first
