@@ -112,7 +112,7 @@ impl<'a> Reader<'a> {
                 let text = decoded(self.alloc, string)?;
                 self.put_json(output, name, Json::Text(STRING, &text))?;
             }
-            Data::Bytes(..) | Data::None => {}
+            Data::Bytes(..) | Data::Damaged => {}
         }
         Ok(None)
     }
@@ -136,7 +136,7 @@ impl<'a> Reader<'a> {
                     put_key(output, key)?;
                 }
             }
-            Entry::None => {}
+            Entry::Nothing => {}
         }
         if !self.is_json {
             put_line(output, part.units)?;

@@ -1,3 +1,4 @@
 pub mod Digits
+pub mod Entries
 pub mod Escapes
 pub mod Lines

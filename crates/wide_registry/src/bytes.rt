@@ -1,6 +1,6 @@
 //! The bytes of a value.
 
-ghost use Rattle.std.specs.Prelude.{◌≡◌, ◌<◌, ◌≤◌, ◌+◌, ◌*◌, ◌==◌, IfOk, IfSome, length, vec_len};
+ghost use Rattle.std.specs.Prelude.{◌≡◌, ◌<◌, ◌≤◌, ◌+◌, ◌*◌, ◌==◌, IfOk, IfSome, length, vec_len, OnOk};
 ghost use Rattle.std.specs.List.{before_first};
 ghost use Rattle.wide_registry.specs.Lines.{without_blanks};
 
@@ -179,7 +179,8 @@ pub fn bytes_of(alloc: Global, digits: &[u16]) -> Result<Option<Vec<u8>>, OutOfM
 
 // Notes each piece of a line that is no byte. The pieces are before the last `left` units of their part.
 fn note_pieces<'a>(notes: &mut Notes<'a>, pieces: &'a [u16], left: usize) -> Result<(), OutOfMemory>
-    ensures { notes.new.len ≡ notes.old.len }
+    ensures same { notes.new.len ≡ notes.old.len }
+    ensures kept { OnOk result (vec_len notes.old.damages ≤ vec_len notes.new.damages) }
 {
     let mut rest = pieces;
     loop {
@@ -206,7 +207,8 @@ fn len_from_backslash(line: &[u16]) -> usize {
 
 // Notes what is damaged in the bytes of a value, which are the last units of their part.
 pub fn note_bytes<'a>(notes: &mut Notes<'a>, digits: &'a [u16]) -> Result<(), OutOfMemory>
-    ensures { notes.new.len ≡ notes.old.len }
+    ensures same { notes.new.len ≡ notes.old.len }
+    ensures kept { OnOk result (vec_len notes.old.damages ≤ vec_len notes.new.damages) }
 {
     let mut rest = digits;
     let mut is_first = true;

@@ -39,7 +39,7 @@ pub enum Data<'a> {
     /// The number of a type, and the bytes as they are written, all lines of them: what is behind the colon.
     Bytes(u32, &'a [u16]),
     /// Something else.
-    None,
+    Damaged,
 }
 
 /// A value.
@@ -61,7 +61,7 @@ pub enum Entry<'a> {
     /// A value.
     Value(Value<'a>),
     /// Nothing, or nothing that can be read.
-    None,
+    Nothing,
 }
 
 // The headers, and what they are.

@@ -1,6 +1,6 @@
 //! Reads an export part by part.
 
-ghost use Rattle.std.specs.Prelude.{◌≡◌, ◌<◌, ◌≤◌, ◌↔◌, ◌++◌, [], All, IfOk, IfSome, IsNone, OnErr, length};
+ghost use Rattle.std.specs.Prelude.{◌≡◌, ◌<◌, ◌≤◌, ◌↔◌, ◌++◌, [], All, IfOk, IfSome, IsNone, OnErr, false, length, vec_len};
 
 use crate::damage::Damage;
 use crate::entry::{Entry, behind_part};
@@ -30,6 +30,8 @@ pub struct Export<'a> {
 }
 
 impl<'a> Export<'a> {
+    ghost use Rattle.wide_registry.specs.Entries.{EndsInBytes, is_read, says_nothing};
+
     /// Returns an export of which nothing has been read. The text has no BOM.
     pub fn new(text: &'a [u16]) -> Export<'a>
         ensures { result.rest.now ≡ text.now }
@@ -51,6 +53,11 @@ impl<'a> Export<'a> {
         ensures parts { IfOk result (λ part. IfSome part (λ part. self.old.rest.now ≡ part.units.now ++ self.new.rest.now)) }
         ensures progress { IfOk result (λ part. IfSome part (λ part. 0 < length part.units.now)) }
         ensures damages { IfOk result (λ part. IfSome part (λ part. All (λ damage. damage.unit ≤ length part.units.now) part.damages.items)) }
+
+        // What is not read of a part is a damage, but for nothing and comments. Bytes are the end of their part.
+        ensures noted { IfOk result (λ part. IfSome part (λ part. is_read part.entry ≡ false → says_nothing part.units.now ≡ false → 0 < vec_len part.damages)) }
+        ensures digits { IfOk result (λ part. IfSome part (λ part. EndsInBytes part.units.now part.entry)) }
+
         ensures err { OnErr result (self.new ≡ self.old) }
     {
         if self.rest.is_empty() {

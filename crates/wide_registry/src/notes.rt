@@ -1,6 +1,6 @@
 //! The damages of a part while it is read.
 
-ghost use Rattle.std.specs.Prelude.{◌≡◌, ◌≤◌, All, length};
+ghost use Rattle.std.specs.Prelude.{◌≡◌, ◌≤◌, ◌+◌, All, OnOk, length, vec_len};
 
 use crate::damage::{Damage, Kind};
 use crate::line::{FEED, RETURN};
@@ -17,7 +17,8 @@ pub struct Notes<'a> {
 
 impl<'a> Notes<'a> {
     pub fn new(alloc: Global, part: &[u16]) -> Notes<'a>
-        ensures { result.len ≡ length part.now }
+        ensures part { result.len ≡ length part.now }
+        ensures none { vec_len result.damages ≡ 0 }
     {
         Notes {
             len: part.len(),
@@ -27,7 +28,8 @@ impl<'a> Notes<'a> {
 
     // Adds a damage that is before the last `left` units of the part.
     pub fn push(&mut self, left: usize, kind: Kind<'a>) -> Result<(), OutOfMemory>
-        ensures { self.new.len ≡ self.old.len }
+        ensures same { self.new.len ≡ self.old.len }
+        ensures one_more { OnOk result (vec_len self.new.damages ≡ vec_len self.old.damages + 1) }
     {
         let unit = self.len.saturating_sub(left);
         self.damages.push(Damage { unit, kind })?;
@@ -36,7 +38,8 @@ impl<'a> Notes<'a> {
 
     // Notes a line end that is not CR LF. It is before the last `left` units of the part.
     pub fn push_end(&mut self, end: &[u16], left: usize) -> Result<(), OutOfMemory>
-        ensures { self.new.len ≡ self.old.len }
+        ensures same { self.new.len ≡ self.old.len }
+        ensures kept { OnOk result (vec_len self.old.damages ≤ vec_len self.new.damages) }
     {
         let kind = match end {
             [RETURN, FEED] => return Ok(()),

@@ -1,6 +1,7 @@
 //! What a part says, and what is damaged in it.
 
-ghost use Rattle.std.specs.Prelude.{◌≡◌};
+ghost use Rattle.std.specs.Prelude.{◌≡◌, ◌<◌, ◌≤◌, IfOk, MatchOption, OnOk, false, length, nat_lt, vec_len};
+ghost use Rattle.wide_registry.specs.Entries.{EndsInBytes, EndsInData, is_comment, is_data, is_read, says_nothing};
 
 use crate::bytes::{AT, OPENING, SEMICOLON, note_bytes};
 use crate::damage::Kind;
@@ -27,6 +28,13 @@ pub struct Context {
     pub has_key: bool,
 }
 
+// Returns whether a line has nothing or a comment, without the blanks at its beginning.
+fn is_comment(line: &[u16]) -> bool
+    ensures { result ≡ is_comment line.now }
+{
+    matches!(line, [] | [SEMICOLON | NUMBER_SIGN, ..])
+}
+
 // Returns whether only blanks and a comment follow data.
 fn is_over(behind: &[u16]) -> bool {
     matches!(without_blanks(behind), [] | [SEMICOLON, ..])
@@ -47,14 +55,16 @@ fn read_key<'a>(
     notes: &mut Notes<'a>,
     key: &'a [u16],
     left: usize,
-) -> Result<Entry<'a>, OutOfMemory>
-    ensures { notes.new.len ≡ notes.old.len }
+) -> Result<Option<Key<'a>>, OutOfMemory>
+    ensures same { notes.new.len ≡ notes.old.len }
+    ensures kept { OnOk result (vec_len notes.old.damages ≤ vec_len notes.new.damages) }
+    ensures noted { IfOk result (λ key. MatchOption key (vec_len notes.old.damages < vec_len notes.new.damages) (λ key. nat_lt 0 (length key.path.now) ≡ false → vec_len notes.old.damages < vec_len notes.new.damages)) }
 {
     let from_key = left.saturating_add(key.len());
     let from_bracket = from_key.saturating_add(1);
     let Some(path) = path_of(key) else {
         notes.push(from_bracket, Kind::NoKey)?;
-        return Ok(Entry::None);
+        return Ok(None);
     };
     let (path, is_deleted) = match after(path, "-") {
         Some(path) => (path, true),
@@ -66,19 +76,22 @@ fn read_key<'a>(
         let from_root = from_key.saturating_sub(usize::from(is_deleted));
         notes.push(from_root, Kind::UnknownRoot(root_of(path)))?;
     }
-    Ok(Entry::Key(Key { path, is_deleted }))
+    Ok(Some(Key { path, is_deleted }))
 }
 
 // Reads a string. `text` is what follows its quote, all that is left of the part.
 fn read_string<'a>(notes: &mut Notes<'a>, text: &'a [u16]) -> Result<Data<'a>, OutOfMemory>
-    ensures { notes.new.len ≡ notes.old.len }
+    ensures same { notes.new.len ≡ notes.old.len }
+    ensures kept { OnOk result (vec_len notes.old.damages ≤ vec_len notes.new.damages) }
+    ensures noted { IfOk result (λ found. is_data found ≡ false → vec_len notes.old.damages < vec_len notes.new.damages) }
+    ensures digits { IfOk result (λ found. EndsInData text.now found) }
 {
     let Some(at) = closing_quote(text) else {
         let line = first_line(text);
         let left = text.len().saturating_sub(line.units.len());
         notes.push(text.len(), Kind::NoStringEnd)?;
         note_escapes(notes, line.units, left)?;
-        return Ok(Data::None);
+        return Ok(Data::Damaged);
     };
     let (string, behind) = text.split_at(at);
     note_escapes(notes, string, behind.len())?;
@@ -90,16 +103,13 @@ fn read_string<'a>(notes: &mut Notes<'a>, text: &'a [u16]) -> Result<Data<'a>, O
     let left = behind.len().saturating_sub(line.units.len());
     let from_more = left.saturating_add(without_blanks(line.units).len());
     notes.push(from_more, Kind::BehindString)?;
-    Ok(Data::None)
+    Ok(Data::Damaged)
 }
 
 // Reads a number. `digits` is what follows the colon in its line.
-fn read_number<'a>(digits: &[u16]) -> Data<'a> {
+fn read_number(digits: &[u16]) -> Option<u32> {
     let digits = without_last_blanks(split_before(digits, SEMICOLON).0);
-    match number_of(without_blanks(digits)) {
-        Some(number) => Data::Number(number),
-        None => Data::None,
-    }
+    number_of(without_blanks(digits))
 }
 
 // Reads what follows `=` in its line, before the last `left` units of the part.
@@ -109,7 +119,10 @@ fn read_data<'a>(
     data: &'a [u16],
     left: usize,
 ) -> Result<Data<'a>, OutOfMemory>
-    ensures { notes.new.len ≡ notes.old.len }
+    ensures same { notes.new.len ≡ notes.old.len }
+    ensures kept { OnOk result (vec_len notes.old.damages ≤ vec_len notes.new.damages) }
+    ensures noted { IfOk result (λ found. is_data found ≡ false → vec_len notes.old.damages < vec_len notes.new.damages) }
+    ensures digits { IfOk result (λ found. EndsInData part.now found) }
 {
     if let Some(string) = after(data, "\"") {
         return read_string(notes, last_units(part, left.saturating_add(string.len())));
@@ -121,17 +134,17 @@ fn read_data<'a>(
     }
     let from_data = left.saturating_add(data.len());
     if let Some(digits) = after(data, "dword:") {
-        let number = read_number(digits);
-        if matches!(number, Data::None) {
+        let Some(number) = read_number(digits) else {
             notes.push(from_data, Kind::NoNumber)?;
-        }
-        return Ok(number);
+            return Ok(Data::Damaged);
+        };
+        return Ok(Data::Number(number));
     }
     match after(data, "-") {
         Some(behind) if is_over(behind) => Ok(Data::Deleted),
         _ => {
             notes.push(from_data, Kind::NoData)?;
-            Ok(Data::None)
+            Ok(Data::Damaged)
         }
     }
 }
@@ -143,12 +156,15 @@ fn read_value<'a>(
     line: &'a [u16],
     left: usize,
 ) -> Result<Entry<'a>, OutOfMemory>
-    ensures { notes.new.len ≡ notes.old.len }
+    ensures same { notes.new.len ≡ notes.old.len }
+    ensures kept { OnOk result (vec_len notes.old.damages ≤ vec_len notes.new.damages) }
+    ensures noted { IfOk result (λ entry. is_read entry ≡ false → vec_len notes.old.damages < vec_len notes.new.damages) }
+    ensures digits { IfOk result (λ entry. EndsInBytes part.now entry) }
 {
     let from_line = left.saturating_add(line.len());
     let Some(found) = assignment_of(line) else {
         notes.push(from_line, Kind::NoName)?;
-        return Ok(Entry::None);
+        return Ok(Entry::Nothing);
     };
     if let Some(name) = found.name {
         let behind = from_line.saturating_sub(name.len()).saturating_sub(1);
@@ -167,7 +183,10 @@ fn read_entry<'a>(
     part: &'a [u16],
     context: Context,
 ) -> Result<Entry<'a>, OutOfMemory>
-    ensures { notes.new.len ≡ notes.old.len }
+    ensures same { notes.new.len ≡ notes.old.len }
+    ensures kept { OnOk result (vec_len notes.old.damages ≤ vec_len notes.new.damages) }
+    ensures noted { IfOk result (λ entry. is_read entry ≡ false → says_nothing part.now ≡ false → vec_len notes.old.damages < vec_len notes.new.damages) }
+    ensures digits { IfOk result (λ entry. EndsInBytes part.now entry) }
 {
     let units = first_line(part).units;
     let left = part.len().saturating_sub(units.len());
@@ -179,9 +198,14 @@ fn read_entry<'a>(
     }
     let line = without_blanks(units);
     let from_line = left.saturating_add(line.len());
+    if is_comment(line) {
+        return Ok(Entry::Nothing);
+    }
     match line {
-        [] | [SEMICOLON | NUMBER_SIGN, ..] => Ok(Entry::None),
-        [OPENING, key @ ..] => read_key(notes, key, left),
+        [OPENING, key @ ..] => match read_key(notes, key, left)? {
+            Some(key) => Ok(Entry::Key(key)),
+            None => Ok(Entry::Nothing),
+        },
         [AT | QUOTE, ..] => {
             if !context.has_key {
                 notes.push(from_line, Kind::NoKeyAbove)?;
@@ -190,14 +214,15 @@ fn read_entry<'a>(
         }
         _ => {
             notes.push(from_line, Kind::NoEntry)?;
-            Ok(Entry::None)
+            Ok(Entry::Nothing)
         }
     }
 }
 
 // Notes each surrogate that belongs to no pair, and each NUL.
 fn note_units(notes: &mut Notes<'_>, part: &[u16]) -> Result<(), OutOfMemory>
-    ensures { notes.new.len ≡ notes.old.len }
+    ensures same { notes.new.len ≡ notes.old.len }
+    ensures kept { OnOk result (vec_len notes.old.damages ≤ vec_len notes.new.damages) }
 {
     for (unit, item) in U16Str::from_slice(part).char_indices() {
         let kind = match item {
@@ -216,7 +241,10 @@ pub fn read_part<'a>(
     part: &'a [u16],
     context: Context,
 ) -> Result<Entry<'a>, OutOfMemory>
-    ensures { notes.new.len ≡ notes.old.len }
+    ensures same { notes.new.len ≡ notes.old.len }
+    ensures kept { OnOk result (vec_len notes.old.damages ≤ vec_len notes.new.damages) }
+    ensures noted { IfOk result (λ entry. is_read entry ≡ false → says_nothing part.now ≡ false → vec_len notes.old.damages < vec_len notes.new.damages) }
+    ensures digits { IfOk result (λ entry. EndsInBytes part.now entry) }
 {
     let entry = read_entry(notes, part, context)?;
     let end = part.len().saturating_sub(without_end(part).len());

@@ -1,6 +1,6 @@
 //! Strings in quotes.
 
-ghost use Rattle.std.specs.Prelude.{◌≡◌, ◌<◌, ◌+◌, IfNone, IfOk, IfSome, false, length, take, true};
+ghost use Rattle.std.specs.Prelude.{◌≡◌, ◌<◌, ◌+◌, IfNone, IfOk, IfSome, false, length, take, true, OnOk, vec_len, ◌≤◌};
 ghost use Rattle.wide_registry.specs.Escapes.{has_quote, meaning_of, unescaped};
 
 use crate::damage::Kind;
@@ -82,7 +82,8 @@ pub fn note_escapes<'a>(
     string: &[u16],
     left: usize,
 ) -> Result<(), OutOfMemory>
-    ensures { notes.new.len ≡ notes.old.len }
+    ensures same { notes.new.len ≡ notes.old.len }
+    ensures kept { OnOk result (vec_len notes.old.damages ≤ vec_len notes.new.damages) }
 {
     let mut rest = string;
     while let [unit, others @ ..] = rest {
