@@ -11,6 +11,7 @@ ghost use Rattle.std.specs.Prelude.{◌≡◌, true, if◌then◌else◌};
 
 mod form;
 mod json;
+mod place;
 mod print;
 mod reader;
 mod reports;

@@ -1,8 +1,10 @@
 //! Reports the damages of an export, each with its place.
 
+use crate::place::place_after;
 use std::alloc::AllocError;
-use wide_files::{BadBytes, Outcome, Place};
-use wide_registry::{Damage, Kind, place_after};
+use wide_files::{BadBytes, Outcome, Place, Shown};
+use wide_registry::{Damage, Kind};
+use widestring::U16Str;
 
 // The place up to which a text has been reported, and what was.
 #[derive(Clone, Copy)]
@@ -78,7 +80,14 @@ impl<'a> Reports<'a> {
         self.report_bad(outcome, offset)?;
         if self.is_new(damage.kind) {
             let place = self.place_of(offset);
-            outcome.report_at(place, damage.kind)?;
+            let kind = damage.kind;
+            match kind.found() {
+                Some(found) => {
+                    let found = Shown(U16Str::from_slice(found));
+                    outcome.report_at(place, format_args!("{kind}, {found}"))?;
+                }
+                None => outcome.report_at(place, kind)?,
+            }
         }
         Ok(())
     }

@@ -1,8 +1,6 @@
 //! What is damaged in an export.
 
 use std::fmt;
-use wide_files::Shown;
-use wide_ustr::U16Str;
 
 /// What regedit would not read, or would read in another way than it looks.
 #[derive(Clone, Copy)]
@@ -45,26 +43,28 @@ pub enum Kind<'a> {
     Fault(u16),
 }
 
+impl<'a> Kind<'a> {
+    /// Returns the units that stand in the place of what is missing, if the text of the damage does not say it.
+    pub fn found(self) -> Option<&'a [u16]> {
+        match self {
+            Kind::UnknownRoot(found) | Kind::NoByte(found) => Some(found),
+            _ => None,
+        }
+    }
+}
+
 impl fmt::Display for Kind<'_> {
     fn fmt<W: fmt::Write>(&self, f: &mut fmt::Formatter<W>) -> fmt::Result {
         let text = match self {
             Kind::NoHeader => "no header",
             Kind::NoEntry => "neither a key nor a value",
             Kind::NoKey => "no key",
-            Kind::UnknownRoot(root) => {
-                return write!(
-                    f,
-                    "no root of a registry, {}",
-                    Shown(U16Str::from_slice(root))
-                );
-            }
+            Kind::UnknownRoot(_) => "no root of a registry",
             Kind::NoKeyAbove => "a value under no key",
             Kind::NoName => "no name and =",
             Kind::NoData => "neither text, a number nor bytes",
             Kind::NoNumber => "no number",
-            Kind::NoByte(piece) => {
-                return write!(f, "no byte, {}", Shown(U16Str::from_slice(piece)));
-            }
+            Kind::NoByte(_) => "no byte",
             Kind::GoesOn => "the value goes on, but no bytes follow",
             Kind::NoEscape => "no escape",
             Kind::NoStringEnd => "the string has no end",

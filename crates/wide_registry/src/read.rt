@@ -1,6 +1,8 @@
 //! What a part says, and what is damaged in it.
 
-ghost use Rattle.std.specs.Prelude.{◌≡◌, ◌<◌, ◌≤◌, IfOk, MatchOption, OnOk, false, length, nat_lt, vec_len};
+ghost use Rattle.std.specs.Prelude.{◌≡◌, ◌<◌, ◌≤◌, ◌⊎◌, IfOk, MatchOption, OnOk, false, length, nat_lt, vec_len};
+ghost use Rattle.wide_forms.specs.EncodingForm.{Utf16};
+ghost use Rattle.wide_forms.specs.Items.{IsWellFormed};
 ghost use Rattle.wide_registry.specs.Entries.{EndsInBytes, EndsInData, is_comment, is_data, is_read, says_nothing};
 
 use crate::bytes::{AT, OPENING, SEMICOLON, note_bytes};
@@ -15,7 +17,7 @@ use crate::notes::Notes;
 use crate::root::{has_known_root, root_of};
 use crate::string::{QUOTE, closing_quote, note_escapes};
 use wide_error::OutOfMemory;
-use wide_ustr::U16Str;
+use wide_unit::find_fault;
 
 const CLOSING: u16 = b']' as u16;
 
@@ -219,18 +221,30 @@ fn read_entry<'a>(
     }
 }
 
-// Notes each surrogate that belongs to no pair, and each NUL.
-fn note_units(notes: &mut Notes<'_>, part: &[u16]) -> Result<(), OutOfMemory>
+// Notes each surrogate that belongs to no pair.
+fn note_faults(notes: &mut Notes<'_>, part: &[u16]) -> Result<(), OutOfMemory>
+    ensures same { notes.new.len ≡ notes.old.len }
+    ensures kept { OnOk result (vec_len notes.old.damages ≤ vec_len notes.new.damages) }
+    ensures noted { OnOk result (IsWellFormed Utf16 part.now ⊎ (vec_len notes.old.damages < vec_len notes.new.damages)) }
+{
+    let mut rest = part;
+    while let Some((index, unit)) = find_fault(rest) {
+        let left = rest.len() - index;
+        notes.push(left, Kind::Fault(unit))?;
+        rest = last_units(rest, left - 1);
+    }
+    Ok(())
+}
+
+// Notes each NUL.
+fn note_nuls(notes: &mut Notes<'_>, part: &[u16]) -> Result<(), OutOfMemory>
     ensures same { notes.new.len ≡ notes.old.len }
     ensures kept { OnOk result (vec_len notes.old.damages ≤ vec_len notes.new.damages) }
 {
-    for (unit, item) in U16Str::from_slice(part).char_indices() {
-        let kind = match item {
-            Err(fault) => Kind::Fault(fault.unpaired_surrogate()),
-            Ok('\0') => Kind::Nul,
-            Ok(_) => continue,
-        };
-        notes.push(part.len().saturating_sub(unit), kind)?;
+    let mut rest = part;
+    while let [_, behind @ ..] = split_before(rest, 0).1 {
+        notes.push(behind.len().saturating_add(1), Kind::Nul)?;
+        rest = behind;
     }
     Ok(())
 }
@@ -249,6 +263,7 @@ pub fn read_part<'a>(
     let entry = read_entry(notes, part, context)?;
     let end = part.len().saturating_sub(without_end(part).len());
     notes.push_end(last_units(part, end), 0)?;
-    note_units(notes, part)?;
+    note_faults(notes, part)?;
+    note_nuls(notes, part)?;
     Ok(entry)
 }

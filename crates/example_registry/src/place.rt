@@ -1,9 +1,12 @@
 //! Lines and units of a place.
 
-use crate::line::{FEED, RETURN};
 use wide_files::Place;
 
-/// Returns the place behind units that begin at a place. CR LF, and one of both alone, end a line.
+const RETURN: u16 = b'\r' as u16;
+
+const FEED: u16 = b'\n' as u16;
+
+// Returns the place behind units that begin at a place. CR LF, and one of both alone, end a line.
 pub fn place_after(place: Place, units: &[u16]) -> Place {
     let Place { mut line, mut unit } = place;
     let mut rest = units;
