@@ -1,5 +1,5 @@
 -- What the text of a string in quotes means, and where it ends.
-use Rattle.std.specs.Prelude.{ℕ, List, [], ◌∷◌, Bool, true, false, if◌then◌else◌, ◌==◌}
+use Rattle.std.specs.Prelude.{ℕ, List, [], ◌∷◌, Bool, true, false, not, ◌||◌, if◌then◌else◌, ◌==◌}
 
 -- What a unit after a backslash means: `n` and `r` are line ends, and others are themselves.
 abbrev pub meaning_of : ℕ → ℕ
@@ -18,3 +18,14 @@ has_quote [] = false
 has_quote (unit ∷ []) = unit == 0x22
 has_quote (unit ∷ next ∷ rest) =
     if unit == 0x5c then has_quote rest else if unit == 0x22 then true else has_quote (next ∷ rest)
+
+-- Whether a unit may be behind a backslash: `"`, `\`, `n` or `r`.
+abbrev pub is_escape : ℕ → Bool
+is_escape unit = unit == 0x22 || unit == 0x5c || unit == 0x6e || unit == 0x72
+
+-- Whether each backslash of a text escapes a unit that may be behind it.
+abbrev pub has_good_escapes : List ℕ → Bool
+has_good_escapes [] = true
+has_good_escapes (unit ∷ []) = not (unit == 0x5c)
+has_good_escapes (unit ∷ next ∷ rest) =
+    if unit == 0x5c then if is_escape next then has_good_escapes rest else false else has_good_escapes (next ∷ rest)

@@ -1,11 +1,14 @@
 //! What a line of an export says.
 
-ghost use Rattle.std.specs.Prelude.{◌≡◌, ◌<◌, ◌≤◌, IfSome, length};
+ghost use Rattle.std.specs.Prelude.{◌≡◌, ◌<◌, ◌≤◌, IfSome, false, length, true};
+ghost use Rattle.std.specs.List.{before_first};
+ghost use Rattle.wide_registry.specs.Headers.{IsHeader};
+ghost use Rattle.wide_registry.specs.Lines.{begins_value, behind_line, is_line_end, without_blanks};
 
 use crate::bytes::{AT, behind_bytes};
 use crate::digits::number_of;
 use crate::line::{
-    after, first_line, is_text, last_units, split_before, without_blanks, without_marks,
+    after, first_line, is_text, last_units, split_before, without_blanks, without_last_marks,
 };
 use crate::string::{QUOTE, closing_quote};
 
@@ -64,24 +67,21 @@ pub enum Entry<'a> {
     Nothing,
 }
 
-// The headers, and what they are.
-static HEADERS: [(&str, Header); 2] = [
-    ("REGEDIT4", Header::Regedit4),
-    ("Windows Registry Editor Version 5.00", Header::Version5),
-];
-
 // The type of data that is written as `hex:`.
 const BINARY: u32 = 3;
 
 // Returns the header that a line is.
-pub fn header_of(line: &[u16]) -> Option<Header> {
-    let line = without_marks(without_blanks(line));
-    for (text, header) in &HEADERS {
-        if is_text(line, text) {
-            return Some(*header);
-        }
+pub fn header_of(line: &[u16]) -> Option<Header>
+    ensures { IfSome result (IsHeader line.now) }
+{
+    let line = without_last_marks(without_blanks(line));
+    if is_text(line, "REGEDIT4") {
+        Some(Header::Regedit4)
+    } else if is_text(line, "Windows Registry Editor Version 5.00") {
+        Some(Header::Version5)
+    } else {
+        None
     }
-    None
 }
 
 // The name of a value, and what follows `=`.
@@ -93,7 +93,8 @@ pub struct Assignment<'a> {
 
 // Returns the name and the data of a value, if a line has both. It begins with its name.
 pub fn assignment_of(line: &[u16]) -> Option<Assignment<'_>>
-    ensures { IfSome result (λ found. length found.data.now ≤ length line.now) }
+    ensures within { IfSome result (λ found. length found.data.now ≤ length line.now) }
+    ensures begins { IfSome result (λ _. begins_value line.now ≡ true) }
 {
     let (name, behind) = match line {
         [AT, behind @ ..] => (None, behind),
@@ -137,6 +138,7 @@ fn behind_string(text: &[u16]) -> Option<&[u16]>
 pub fn behind_part(text: &[u16]) -> &[u16]
     ensures within { length result.now ≤ length text.now }
     ensures progress { 0 < length text.now → length result.now < length text.now }
+    ensures one_line { begins_value (without_blanks (before_first is_line_end text.now)) ≡ false → result.now ≡ behind_line text.now }
 {
     let line = first_line(text);
     let Some(found) = assignment_of(without_blanks(line.units)) else {

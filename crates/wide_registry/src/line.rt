@@ -1,8 +1,9 @@
 //! Lines, and what they begin and end with.
 
 ghost use Rattle.std.specs.Prelude.{◌≡◌, ◌<◌, ◌≤◌, ◌+◌, ◌-◌, ◌++◌, ◌==◌, IfSome, drop, length, min, not, position, take};
+ghost use Rattle.std.specs.Bool.{OnTrue};
 ghost use Rattle.std.specs.List.{before_first};
-ghost use Rattle.wide_registry.specs.Lines.{is_blank, is_line_end, line_end, without_blanks};
+ghost use Rattle.wide_registry.specs.Lines.{is_blank, is_line_end, line_end, behind_line, without_blanks};
 
 pub const RETURN: u16 = b'\r' as u16;
 
@@ -40,6 +41,7 @@ pub fn first_line(text: &[u16]) -> Line<'_>
     ensures end { result.end.now ≡ line_end (result.end.now ++ result.rest.now) }
     ensures parts { text.now ≡ result.units.now ++ result.end.now ++ result.rest.now }
     ensures lengths { length result.units.now + length result.end.now + length result.rest.now ≡ length text.now }
+    ensures rest { result.rest.now ≡ behind_line text.now }
     ensures ended { 0 < length result.rest.now → 0 < length result.end.now }
     ensures progress { 0 < length text.now → length result.rest.now < length text.now }
 {
@@ -100,21 +102,25 @@ pub fn without_last_blanks(line: &[u16]) -> &[u16]
     }
 }
 
+// Returns units without the U+FEFF at their end.
+pub fn without_last_marks(units: &[u16]) -> &[u16]
+    ensures front { result.now ≡ take (length result.now) units.now }
+    ensures within { length result.now ≤ length units.now }
+{
+    match units.iter().rposition(|unit| *unit != MARK) {
+        Some(at) => units.split_at(at + 1).0,
+        None => &[],
+    }
+}
+
 /// Returns units without the U+FEFF at their beginning and at their end.
 pub fn without_marks(units: &[u16]) -> &[u16]
     ensures { length result.now ≤ length units.now }
 {
-    let (at, end) = match units.iter().position(|unit| *unit != MARK) {
-        Some(at) => (
-            at,
-            units
-                .iter()
-                .rposition(|unit| *unit != MARK)
-                .map_or(0, |last| last + 1),
-        ),
-        None => return &[],
-    };
-    units.get(at..end).unwrap_or_default()
+    match units.iter().position(|unit| *unit != MARK) {
+        Some(at) => without_last_marks(units.split_at(at).1),
+        None => &[],
+    }
 }
 
 // Returns the offset of the first unit of this number.
@@ -152,7 +158,9 @@ pub fn after<'a>(units: &'a [u16], text: &str) -> Option<&'a [u16]>
 }
 
 // Returns whether units are an ASCII text.
-pub fn is_text(units: &[u16], text: &str) -> bool {
+pub fn is_text(units: &[u16], text: &str) -> bool
+    ensures { OnTrue result (units.now ≡ text.now) }
+{
     after(units, text).is_some_and(|rest| rest.is_empty())
 }
 
@@ -166,7 +174,9 @@ pub fn last_units(text: &[u16], len: usize) -> &[u16]
 
 /// Returns a part without its last line end.
 pub fn without_end(part: &[u16]) -> &[u16]
-    ensures { length result.now ≤ length part.now }
+    ensures front { result.now ≡ take (length result.now) part.now }
+    ensures within { length result.now ≤ length part.now }
+    ensures end { length part.now ≤ length result.now + 2 }
 {
     match part {
         [units @ .., RETURN, FEED] => units,

@@ -1,6 +1,6 @@
 //! The damages of a part while it is read.
 
-ghost use Rattle.std.specs.Prelude.{◌≡◌, ◌≤◌, ◌+◌, All, OnOk, length, vec_len};
+ghost use Rattle.std.specs.Prelude.{◌≡◌, ◌≤◌, ◌+◌, ◌-◌, [], ◌∷◌, ◌++◌, All, OnOk, length, vec_len};
 
 use crate::damage::{Damage, Kind};
 use crate::line::{FEED, RETURN};
@@ -30,6 +30,7 @@ impl<'a> Notes<'a> {
     pub fn push(&mut self, left: usize, kind: Kind<'a>) -> Result<(), OutOfMemory>
         ensures same { self.new.len ≡ self.old.len }
         ensures one_more { OnOk result (vec_len self.new.damages ≡ vec_len self.old.damages + 1) }
+        ensures last { OnOk result (self.new.damages.items ≡ self.old.damages.items ++ record { unit = self.old.len - left; kind = kind.entry } ∷ []) }
     {
         let unit = self.len.saturating_sub(left);
         self.damages.push(Damage { unit, kind })?;
@@ -40,6 +41,7 @@ impl<'a> Notes<'a> {
     pub fn push_end(&mut self, end: &[u16], left: usize) -> Result<(), OutOfMemory>
         ensures same { self.new.len ≡ self.old.len }
         ensures kept { OnOk result (vec_len self.old.damages ≤ vec_len self.new.damages) }
+        ensures whole { OnOk result (vec_len self.new.damages ≤ vec_len self.old.damages → end.now ≡ 0xd ∷ 0xa ∷ []) }
     {
         let kind = match end {
             [RETURN, FEED] => return Ok(()),

@@ -1,6 +1,6 @@
 //! What a part says, and what is damaged in it.
 
-ghost use Rattle.std.specs.Prelude.{◌≡◌, ◌<◌, ◌≤◌, ◌⊎◌, IfOk, MatchOption, OnOk, false, length, nat_lt, vec_len};
+ghost use Rattle.std.specs.Prelude.{◌≡◌, ◌<◌, ◌≤◌, IfOk, MatchOption, OnOk, false, length, nat_lt, vec_len};
 ghost use Rattle.wide_forms.specs.EncodingForm.{Utf16};
 ghost use Rattle.wide_forms.specs.Items.{IsWellFormed};
 ghost use Rattle.wide_registry.specs.Entries.{EndsInBytes, EndsInData, is_comment, is_data, is_read, says_nothing};
@@ -225,7 +225,7 @@ fn read_entry<'a>(
 fn note_faults(notes: &mut Notes<'_>, part: &[u16]) -> Result<(), OutOfMemory>
     ensures same { notes.new.len ≡ notes.old.len }
     ensures kept { OnOk result (vec_len notes.old.damages ≤ vec_len notes.new.damages) }
-    ensures noted { OnOk result (IsWellFormed Utf16 part.now ⊎ (vec_len notes.old.damages < vec_len notes.new.damages)) }
+    ensures whole { OnOk result (vec_len notes.new.damages ≤ vec_len notes.old.damages → IsWellFormed Utf16 part.now) }
 {
     let mut rest = part;
     while let Some((index, unit)) = find_fault(rest) {

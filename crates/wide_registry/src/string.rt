@@ -1,7 +1,7 @@
 //! Strings in quotes.
 
-ghost use Rattle.std.specs.Prelude.{◌≡◌, ◌<◌, ◌+◌, IfNone, IfOk, IfSome, false, length, take, true, OnOk, vec_len, ◌≤◌};
-ghost use Rattle.wide_registry.specs.Escapes.{has_quote, meaning_of, unescaped};
+ghost use Rattle.std.specs.Prelude.{◌≡◌, ◌<◌, ◌+◌, IfNone, is_some, IfOk, IfSome, false, length, take, true, OnOk, vec_len, ◌≤◌};
+ghost use Rattle.wide_registry.specs.Escapes.{has_good_escapes, has_quote, is_escape, meaning_of, unescaped};
 
 use crate::damage::Kind;
 use crate::line::{FEED, RETURN};
@@ -41,6 +41,7 @@ pub fn closing_quote(text: &[u16]) -> Option<usize>
 fn escaped(unit: u16) -> Option<u16>
     ensures some { IfSome result (λ meant. meant ≡ meaning_of unit) }
     ensures none { IfNone result (meaning_of unit ≡ unit) }
+    ensures known { is_some result ≡ is_escape unit }
 {
     match unit {
         QUOTE | BACKSLASH => Some(unit),
@@ -84,6 +85,7 @@ pub fn note_escapes<'a>(
 ) -> Result<(), OutOfMemory>
     ensures same { notes.new.len ≡ notes.old.len }
     ensures kept { OnOk result (vec_len notes.old.damages ≤ vec_len notes.new.damages) }
+    ensures whole { OnOk result (vec_len notes.new.damages ≤ vec_len notes.old.damages → has_good_escapes string.now ≡ true) }
 {
     let mut rest = string;
     while let [unit, others @ ..] = rest {
