@@ -1,6 +1,6 @@
 //! Reads an export part by part.
 
-ghost use Rattle.std.specs.Prelude.{◌≡◌, ◌<◌, ◌≤◌, ◌↔◌, ◌++◌, [], All, IfOk, IfSome, IsNone, OnErr, false, length, vec_len};
+ghost use Rattle.std.specs.Prelude.{◌≡◌, ◌<◌, ◌≤◌, ◌↔◌, ◌++◌, ◌-◌, [], ◌∷◌, All, IfOk, OnOk, drop, IfSome, IsNone, OnErr, false, length, vec_len};
 
 use crate::damage::Damage;
 use crate::entry::{Entry, behind_part};
@@ -30,7 +30,10 @@ pub struct Export<'a> {
 }
 
 impl<'a> Export<'a> {
-    ghost use Rattle.wide_registry.specs.Entries.{EndsInBytes, is_read, says_nothing};
+    ghost use Rattle.wide_forms.specs.EncodingForm.{Utf16};
+    ghost use Rattle.wide_forms.specs.Items.{IsWellFormed};
+    ghost use Rattle.wide_registry.specs.Entries.{Begins, EndsInBytes, IsEscaped, first_words, is_read, says_nothing};
+    ghost use Rattle.wide_registry.specs.Lines.{begins_value, behind_line};
 
     /// Returns an export of which nothing has been read. The text has no BOM.
     pub fn new(text: &'a [u16]) -> Export<'a>
@@ -57,6 +60,16 @@ impl<'a> Export<'a> {
         // What is not read of a part is a damage, but for nothing and comments. Bytes are the end of their part.
         ensures noted { IfOk result (λ part. IfSome part (λ part. is_read part.entry ≡ false → says_nothing part.units.now ≡ false → 0 < vec_len part.damages)) }
         ensures digits { IfOk result (λ part. IfSome part (λ part. EndsInBytes part.units.now part.entry)) }
+
+        ensures begins { IfOk result (λ part. IfSome part (λ part. Begins part.units.now part.entry)) }
+
+        // A line that is no value is a part by itself.
+        ensures one_line { OnOk result (begins_value (first_words self.old.rest.now) ≡ false → self.new.rest.now ≡ behind_line self.old.rest.now) }
+
+        // A part without damages is well formed, has CR LF at its end, and a string in it only escapes that there are.
+        ensures well_formed { IfOk result (λ part. IfSome part (λ part. vec_len part.damages ≡ 0 → IsWellFormed Utf16 part.units.now)) }
+        ensures line_end { IfOk result (λ part. IfSome part (λ part. vec_len part.damages ≡ 0 → drop (length part.units.now - 2) part.units.now ≡ 0xd ∷ 0xa ∷ [])) }
+        ensures escapes { IfOk result (λ part. IfSome part (λ part. vec_len part.damages ≡ 0 → IsEscaped part.entry)) }
 
         ensures err { OnErr result (self.new ≡ self.old) }
     {

@@ -1,9 +1,9 @@
 //! What a part says, and what is damaged in it.
 
-ghost use Rattle.std.specs.Prelude.{◌≡◌, ◌<◌, ◌≤◌, IfOk, MatchOption, OnOk, false, length, nat_lt, vec_len};
+ghost use Rattle.std.specs.Prelude.{◌≡◌, ◌<◌, ◌≤◌, ◌-◌, [], ◌∷◌, IfOk, IfSome, drop, MatchOption, OnOk, false, length, nat_lt, vec_len};
 ghost use Rattle.wide_forms.specs.EncodingForm.{Utf16};
 ghost use Rattle.wide_forms.specs.Items.{IsWellFormed};
-ghost use Rattle.wide_registry.specs.Entries.{EndsInBytes, EndsInData, is_comment, is_data, is_read, says_nothing};
+ghost use Rattle.wide_registry.specs.Entries.{Begins, EndsInBytes, EndsInData, HasGoodEscapes, IsEscaped, is_comment, is_data, is_read, says_nothing};
 
 use crate::bytes::{AT, OPENING, SEMICOLON, note_bytes};
 use crate::damage::Kind;
@@ -87,6 +87,7 @@ fn read_string<'a>(notes: &mut Notes<'a>, text: &'a [u16]) -> Result<Data<'a>, O
     ensures kept { OnOk result (vec_len notes.old.damages ≤ vec_len notes.new.damages) }
     ensures noted { IfOk result (λ found. is_data found ≡ false → vec_len notes.old.damages < vec_len notes.new.damages) }
     ensures digits { IfOk result (λ found. EndsInData text.now found) }
+    ensures escapes { IfOk result (λ found. vec_len notes.new.damages ≤ vec_len notes.old.damages → HasGoodEscapes found) }
 {
     let Some(at) = closing_quote(text) else {
         let line = first_line(text);
@@ -125,6 +126,7 @@ fn read_data<'a>(
     ensures kept { OnOk result (vec_len notes.old.damages ≤ vec_len notes.new.damages) }
     ensures noted { IfOk result (λ found. is_data found ≡ false → vec_len notes.old.damages < vec_len notes.new.damages) }
     ensures digits { IfOk result (λ found. EndsInData part.now found) }
+    ensures escapes { IfOk result (λ found. vec_len notes.new.damages ≤ vec_len notes.old.damages → HasGoodEscapes found) }
 {
     if let Some(string) = after(data, "\"") {
         return read_string(notes, last_units(part, left.saturating_add(string.len())));
@@ -157,23 +159,24 @@ fn read_value<'a>(
     part: &'a [u16],
     line: &'a [u16],
     left: usize,
-) -> Result<Entry<'a>, OutOfMemory>
+) -> Result<Option<Value<'a>>, OutOfMemory>
     ensures same { notes.new.len ≡ notes.old.len }
     ensures kept { OnOk result (vec_len notes.old.damages ≤ vec_len notes.new.damages) }
-    ensures noted { IfOk result (λ entry. is_read entry ≡ false → vec_len notes.old.damages < vec_len notes.new.damages) }
-    ensures digits { IfOk result (λ entry. EndsInBytes part.now entry) }
+    ensures noted { IfOk result (λ value. MatchOption value (vec_len notes.old.damages < vec_len notes.new.damages) (λ value. is_data value.data ≡ false → vec_len notes.old.damages < vec_len notes.new.damages)) }
+    ensures digits { IfOk result (λ value. IfSome value (λ value. EndsInData part.now value.data)) }
+    ensures escapes { IfOk result (λ value. IfSome value (λ value. vec_len notes.new.damages ≤ vec_len notes.old.damages → HasGoodEscapes value.data)) }
 {
     let from_line = left.saturating_add(line.len());
     let Some(found) = assignment_of(line) else {
         notes.push(from_line, Kind::NoName)?;
-        return Ok(Entry::Nothing);
+        return Ok(None);
     };
     if let Some(name) = found.name {
         let behind = from_line.saturating_sub(name.len()).saturating_sub(1);
         note_escapes(notes, name, behind)?;
     }
     let data = read_data(notes, part, found.data, left)?;
-    Ok(Entry::Value(Value {
+    Ok(Some(Value {
         name: found.name,
         data,
     }))
@@ -189,6 +192,8 @@ fn read_entry<'a>(
     ensures kept { OnOk result (vec_len notes.old.damages ≤ vec_len notes.new.damages) }
     ensures noted { IfOk result (λ entry. is_read entry ≡ false → says_nothing part.now ≡ false → vec_len notes.old.damages < vec_len notes.new.damages) }
     ensures digits { IfOk result (λ entry. EndsInBytes part.now entry) }
+    ensures escapes { IfOk result (λ entry. vec_len notes.new.damages ≤ vec_len notes.old.damages → IsEscaped entry) }
+    ensures begins { IfOk result (λ entry. Begins part.now entry) }
 {
     let units = first_line(part).units;
     let left = part.len().saturating_sub(units.len());
@@ -212,7 +217,10 @@ fn read_entry<'a>(
             if !context.has_key {
                 notes.push(from_line, Kind::NoKeyAbove)?;
             }
-            read_value(notes, part, line, left)
+            match read_value(notes, part, line, left)? {
+                Some(value) => Ok(Entry::Value(value)),
+                None => Ok(Entry::Nothing),
+            }
         }
         _ => {
             notes.push(from_line, Kind::NoEntry)?;
@@ -259,6 +267,10 @@ pub fn read_part<'a>(
     ensures kept { OnOk result (vec_len notes.old.damages ≤ vec_len notes.new.damages) }
     ensures noted { IfOk result (λ entry. is_read entry ≡ false → says_nothing part.now ≡ false → vec_len notes.old.damages < vec_len notes.new.damages) }
     ensures digits { IfOk result (λ entry. EndsInBytes part.now entry) }
+    ensures escapes { IfOk result (λ entry. vec_len notes.new.damages ≤ vec_len notes.old.damages → IsEscaped entry) }
+    ensures begins { IfOk result (λ entry. Begins part.now entry) }
+    ensures well_formed { OnOk result (vec_len notes.new.damages ≤ vec_len notes.old.damages → IsWellFormed Utf16 part.now) }
+    ensures line_end { OnOk result (vec_len notes.new.damages ≤ vec_len notes.old.damages → drop (length part.now - 2) part.now ≡ 0xd ∷ 0xa ∷ []) }
 {
     let entry = read_entry(notes, part, context)?;
     let end = part.len().saturating_sub(without_end(part).len());
