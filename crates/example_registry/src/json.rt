@@ -1,0 +1,140 @@
+//! Prints keys and values as JSON, an object in a line.
+
+use std::alloc::{AllocError, Global};
+use std::fmt;
+use std::fmt::Write;
+use wide_registry::{Key, decoded};
+use widestring::U16Str;
+use widestring::error::OutOfMemory;
+
+// Returns whether JSON or a terminal wants a character escaped: controls, separators of lines, and characters that change
+// the direction of text.
+fn is_escaped(c: char) -> bool {
+    c.is_control() || matches!(c, '\u{2028}'..='\u{202e}' | '\u{2066}'..='\u{2069}' | '\u{feff}')
+}
+
+// A text as a string of JSON. An unpaired surrogate is an escape, so that nothing is lost.
+#[derive(Clone, Copy)]
+pub struct JsonText<'a>(pub &'a [u16]);
+
+impl fmt::Display for JsonText<'_> {
+    fn fmt<W: fmt::Write>(&self, f: &mut fmt::Formatter<W>) -> fmt::Result {
+        f.write_char('"')?;
+        for item in U16Str::from_slice(self.0).chars() {
+            match item {
+                Ok('"') => f.write_str("\\\"")?,
+                Ok('\\') => f.write_str("\\\\")?,
+                Ok('\n') => f.write_str("\\n")?,
+                Ok('\r') => f.write_str("\\r")?,
+                Ok('\t') => f.write_str("\\t")?,
+                Ok(c) if is_escaped(c) => write!(f, "\\u{:04x}", u32::from(c))?,
+                Ok(c) => f.write_char(c)?,
+                Err(fault) => write!(f, "\\u{:04x}", fault.unpaired_surrogate())?,
+            }
+        }
+        f.write_char('"')
+    }
+}
+
+// A string of JSON, or null.
+#[derive(Clone, Copy)]
+struct OrNull<'a>(Option<&'a [u16]>);
+
+impl fmt::Display for OrNull<'_> {
+    fn fmt<W: fmt::Write>(&self, f: &mut fmt::Formatter<W>) -> fmt::Result {
+        match self.0 {
+            Some(text) => write!(f, "{}", JsonText(text)),
+            None => f.write_str("null"),
+        }
+    }
+}
+
+// Prints a key.
+pub fn put_key(output: &mut String, key: Key<'_>) -> Result<(), AllocError> {
+    let delete = if key.is_deleted {
+        ",\"delete\":true"
+    } else {
+        ""
+    };
+    writeln!(output, "{{\"key\":{}{delete}}}", JsonText(key.path))
+}
+
+// What is printed of the data of a value.
+#[derive(Clone, Copy)]
+pub enum Json<'a> {
+    Delete,
+    Number(u32),
+    Text(u32, &'a [u16]),
+    Texts(u32, &'a [u16]),
+    Bytes(u32, &'a [u8]),
+}
+
+// Returns a text without a NUL at its end.
+fn without_nul(text: &[u16]) -> &[u16] {
+    match text {
+        [text @ .., 0] => text,
+        _ => text,
+    }
+}
+
+// Prints texts that each end in a NUL, and another NUL behind them.
+fn put_texts(output: &mut String, texts: &[u16]) -> Result<(), AllocError> {
+    output.push('[')?;
+    let mut rest = match without_nul(texts) {
+        [] => None,
+        texts => Some(without_nul(texts)),
+    };
+    let mut comma = "";
+    while let Some(texts) = rest {
+        let at = texts.iter().position(|unit| *unit == 0);
+        let (text, behind) = texts.split_at(at.unwrap_or(texts.len()));
+        write!(output, "{comma}{}", JsonText(text))?;
+        comma = ",";
+        rest = match behind {
+            [_, behind @ ..] => Some(behind),
+            [] => None,
+        };
+    }
+    output.push(']')
+}
+
+// Prints the data of a value.
+fn put_data(output: &mut String, data: Json<'_>) -> Result<(), AllocError> {
+    match data {
+        Json::Delete => output.push_str("\"delete\":true"),
+        Json::Number(number) => write!(output, "\"type\":4,\"number\":{number}"),
+        Json::Text(kind, text) => {
+            let text = JsonText(without_nul(text));
+            write!(output, "\"type\":{kind},\"text\":{text}")
+        }
+        Json::Texts(kind, texts) => {
+            write!(output, "\"type\":{kind},\"texts\":")?;
+            put_texts(output, texts)
+        }
+        Json::Bytes(kind, bytes) => {
+            write!(output, "\"type\":{kind},\"bytes\":\"")?;
+            for byte in bytes {
+                write!(output, "{byte:02x}")?;
+            }
+            output.push('"')
+        }
+    }
+}
+
+// Prints a value of a key.
+pub fn put_value(
+    alloc: Global,
+    output: &mut String,
+    key: Option<&[u16]>,
+    name: Option<&[u16]>,
+    data: Json<'_>,
+) -> Result<(), OutOfMemory> {
+    let name = match name {
+        Some(name) => Some(decoded(alloc, name)?),
+        None => None,
+    };
+    let name = OrNull(name.as_ref().map(|name| name.as_slice()));
+    write!(output, "{{\"key\":{},\"name\":{name},", OrNull(key))?;
+    put_data(output, data)?;
+    Ok(output.push_str("}\n")?)
+}

@@ -1,0 +1,5 @@
+pub mod Digits
+pub mod Entries
+pub mod Escapes
+pub mod Headers
+pub mod Lines
