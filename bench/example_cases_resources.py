@@ -1,10 +1,14 @@
-"""What the example `resources` prints and reports, by an independent reader of `.res` files."""
+"""What the example `resources` prints and reports, by an independent reader of `.res` files and of executables."""
 
 import struct
-import unicodedata
 
-USAGE = "usage: resources [--lossy] FILE..\n"
+USAGE = "usage: resources [--lossy] [--names] [--skipped] FILE..\n"
 EMPTY = struct.pack("<8I", 0, 32, 0xFFFF, 0xFFFF, 0, 0, 0, 0)
+MENU, DIALOG, STRINGS, MESSAGES, VERSION = 4, 5, 6, 11, 16
+WORDS = {MENU: "menu ", DIALOG: "dialog ", STRINGS: "", MESSAGES: "message ", VERSION: "version "}
+LANGUAGES = {0x407: "de-DE", 0x409: "en-US", 0x40C: "fr-FR"}
+TERMINAL = {"\n": "\\n", "\r": "\\r", "\t": "\\t", "\0": "\\0"}
+HIDDEN = "\u2028\u2029\u202a\u202b\u202c\u202d\u202e\u2066\u2067\u2068\u2069\ufeff"
 
 
 # Functions that make files.
@@ -24,12 +28,13 @@ def padded(data):
 
 
 def resource(kind, name, data, language=0x409, header_size=None, data_size=None, more=b""):
-    """Returns a resource without its padding. Its sizes may be wrong, and `more` follows the fields of its header."""
+    """Returns a resource without its padding. Its sizes may be wrong, and `more` follows the fields of its header. A header
+    whose length is no multiple of four has padding behind it."""
     names = padded(name_bytes(kind) + name_bytes(name))
     fields = names + struct.pack("<IHHII", 0, 0x1030, language, 0, 0) + more
     header_size = len(fields) + 8 if header_size is None else header_size
     data_size = len(data) if data_size is None else data_size
-    return struct.pack("<II", data_size, header_size) + fields + data
+    return struct.pack("<II", data_size, header_size) + padded(fields) + data
 
 
 def strings(*texts):
@@ -39,7 +44,7 @@ def strings(*texts):
 
 
 def table(name, *texts, language=0x409):
-    return resource(6, name, strings(*texts), language)
+    return resource(STRINGS, name, strings(*texts), language)
 
 
 def file(*resources):
@@ -47,50 +52,342 @@ def file(*resources):
     return b"".join([EMPTY, *map(padded, resources[:-1]), *resources[-1:]])
 
 
+def menu(*items):
+    """Returns a menu of the first format: items of options, number and text."""
+    fields = [struct.pack("<H", options) + (b"" if options & 0x10 else struct.pack("<H", number)) + units(text + "\0") for options, number, text in items]
+    return struct.pack("<HH", 0, 0) + b"".join(fields)
+
+
+def menu_ex(*items):
+    """Returns a menu of the second format: items of options, number and text."""
+    data = struct.pack("<HHI", 1, 4, 0)
+    for options, number, text in items:
+        data = padded(data) + struct.pack("<IIIH", 0, 0, number, options) + units(text + "\0")
+        if options & 1:
+            data = padded(data) + struct.pack("<I", 0)
+    return data
+
+
+def dialog(caption, *controls, font=None, menu="", kind=""):
+    """Returns a dialog of the first format: controls of number, class and text."""
+    style = 0x40 if font else 0
+    data = struct.pack("<IIHhhhh", style, 0, len(controls), 0, 0, 9, 9) + name_bytes(menu) + name_bytes(kind) + units(caption + "\0")
+    if font:
+        data += struct.pack("<H", 8) + units(font + "\0")
+    for number, kind, text in controls:
+        data = padded(data) + struct.pack("<IIhhhhH", 0, 0, 0, 0, 9, 9, number) + name_bytes(kind) + name_bytes(text) + struct.pack("<H", 0)
+    return data
+
+
+def dialog_ex(caption, *controls, font=None, extra=b""):
+    """Returns a dialog of the second format."""
+    style = 0x40 if font else 0
+    data = struct.pack("<HHIIIHhhhh", 1, 0xFFFF, 0, 0, style, len(controls), 0, 0, 9, 9) + units("\0\0") + units(caption + "\0")
+    if font:
+        data += struct.pack("<HHBB", 8, 400, 0, 1) + units(font + "\0")
+    for number, kind, text in controls:
+        fields = struct.pack("<IIIhhhhI", 0, 0, 0, 0, 0, 9, 9, number) + name_bytes(kind) + name_bytes(text)
+        data = padded(data) + fields + struct.pack("<H", len(extra)) + extra
+    return data
+
+
+def messages(*blocks):
+    """Returns a message table: blocks of a first number and messages, which are texts or bytes."""
+    at, fields, entries = 4 + 12 * len(blocks), b"", b""
+    for low, *texts in blocks:
+        fields += struct.pack("<III", low, low + len(texts) - 1, at + len(entries))
+        for text in texts:
+            data = padded(text + b"\0" if isinstance(text, bytes) else units(text + "\0"))
+            entries += struct.pack("<HH", len(data) + 4, not isinstance(text, bytes)) + data
+    return struct.pack("<I", len(blocks)) + fields + entries
+
+
+def node(name, value, *children, is_text=True):
+    """Returns a node of version information with its padding."""
+    data = padded(struct.pack("<HHH", 0, len(value) // (2 if is_text else 1), is_text) + units(name + "\0")) + value
+    for child in children:
+        data = padded(data) + child
+    return struct.pack("<H", len(data)) + data[2:]
+
+
+def version(*pairs, tables=1):
+    texts = [padded(node(name, units(text + "\0"))) for name, text in pairs]
+    languages = [padded(node(f"040{9 - number}04b0", b"", *texts)) for number in range(tables)]
+    translation = padded(node("Translation", struct.pack("<HH", 0x409, 0x4B0), is_text=False))
+    children = [padded(node("StringFileInfo", b"", *languages)), padded(node("VarFileInfo", b"", translation))]
+    return node("VS_VERSION_INFO", bytes(52), *children, is_text=False)
+
+
+def executable(*resources, bits=32, more_entries=0, machine=b"PE\0\0"):
+    """Returns a PE file with these resources: type, name, language and contents."""
+    tree = {}
+    for kind, name, language, data in resources:
+        tree.setdefault(kind, {}).setdefault(name, {})[language] = data
+    base, section, later = 0x1000, bytearray(), []
+
+    def put_directory(level):
+        """Adds a directory of a level, and those below it behind it."""
+        start = len(section)
+        texts, numbers = ([name for name in level if isinstance(name, kind)] for kind in (str, int))
+        section.extend(struct.pack("<IIHHHH", 0, 0, 0, 0, len(texts), len(numbers) + more_entries))
+        section.extend(bytes(8 * len(level)))
+        for index, name in enumerate([*texts, *numbers]):
+            at = start + 16 + 8 * index
+            below, number = level[name], name
+            if isinstance(name, str):
+                number = 0x80000000 | len(section)
+                section.extend(struct.pack("<H", len(name)) + units(name))
+                section.extend(bytes(-len(section) % 4))
+            target = len(section) | (0x80000000 if isinstance(below, dict) else 0)
+            struct.pack_into("<II", section, at, number, target)
+            if isinstance(below, dict):
+                put_directory(below)
+            else:
+                later.append((len(section), below))
+                section.extend(bytes(16))
+
+    put_directory(tree)
+    for at, data in later:
+        section.extend(bytes(-len(section) % 4))
+        struct.pack_into("<IIII", section, at, base + len(section), len(data), 0, 0)
+        section.extend(data)
+    directories = struct.pack("<4I", 0, 0, 0, 0) + struct.pack("<II", base, len(section)) + bytes(8 * 13)
+    optional = struct.pack("<H", 0x10B if bits == 32 else 0x20B) + bytes(90 if bits == 32 else 106) + struct.pack("<I", 16) + directories
+    header = struct.pack("<HHIIIHH", 0x14C, 1, 0, 0, 0, len(optional), 0x102)
+    before = b"MZ" + bytes(58) + struct.pack("<I", 64) + machine + header + optional
+    at = len(before) + 40
+    return before + b".rsrc\0\0\0" + struct.pack("<IIIIIIHHI", len(section), base, len(section), at, 0, 0, 0, 0, 0) + bytes(section)
+
+
 # The model of what is printed and reported.
 
 
-class Unassigned(Exception):
-    """A text has a character that is not assigned in this Python's Unicode version, and may be in a later one."""
-
-
-def debug_of(char):
-    """Returns a character as Rust's `{:?}` prints it within a text."""
-    is_noncharacter = ord(char) & 0xFFFE == 0xFFFE or 0xFDD0 <= ord(char) < 0xFDF0
-    if unicodedata.category(char) == "Cn" and not is_noncharacter:
-        raise Unassigned
-    named = {"\0": "\\0", "\t": "\\t", "\r": "\\r", "\n": "\\n", '"': '\\"', "\\": "\\\\"}
-    if char in named:
-        return named[char]
-    is_mark = unicodedata.category(char) in ("Mn", "Me")
-    return char if char.isprintable() and not is_mark else f"\\u{{{ord(char):x}}}"
+def shown(text, in_quotes):
+    written = ""
+    for char in text:
+        if in_quotes and char in '"\\':
+            written += "\\" + char
+        elif 0xD800 <= ord(char) < 0xE000:
+            written += f"\\<{ord(char):04X}>"
+        elif ord(char) < 32 or 0x7F <= ord(char) < 0xA0 or char in HIDDEN:
+            written += TERMINAL.get(char) or f"\\u{{{ord(char):x}}}"
+        else:
+            written += char
+    return f'"{written}"' if in_quotes else written
 
 
 class Fault(Exception):
-    """The damage after which no more resources are read."""
+    """The damage after which no more is read of a file, or of a resource."""
+
+
+class Fields:
+    """The contents of a resource, read from field to field."""
+
+    def __init__(self, data):
+        self.data, self.at = data, 0
+
+    def cut(self):
+        raise Fault(f"its contents are cut off at their byte {len(self.data)}")
+
+    def take(self, count):
+        if self.at + count > len(self.data):
+            self.cut()
+        self.at += count
+        return self.data[self.at - count : self.at]
+
+    def number(self, size):
+        return int.from_bytes(self.take(size), "little")
+
+    def align(self):
+        self.at = min(self.at + -self.at % 4, len(self.data))
+
+    def text(self):
+        at = self.at
+        while at + 2 <= len(self.data):
+            if self.data[at : at + 2] == b"\0\0":
+                found = self.data[self.at : at]
+                self.at = at + 2
+                return found
+            at += 2
+        return self.cut()
+
+    def text_or_number(self):
+        if self.data[self.at : self.at + 2] == b"\xff\xff" and self.at + 4 <= len(self.data):
+            self.at += 4
+            return b""
+        return self.text()
+
+
+def decoded(data):
+    """Returns the text of units, in which an unpaired surrogate is a character of its own."""
+    return data[: len(data) // 2 * 2].decode("utf-16-le", "surrogatepass")
+
+
+def texts_of_strings(name, data):
+    if isinstance(name, str):
+        raise Fault("a string table is named by a number, not by a text")
+    if name not in range(1, 4097):
+        raise Fault(f"a string table is named 1 to 4096, not {name}")
+    at = 0
+    for number in range(16 * name - 16, 16 * name):
+        count = int.from_bytes(data[at : at + 2], "little") if at + 2 <= len(data) else 0
+        end = at + 2 + 2 * count
+        if end > len(data):
+            raise Fault(f"ends in string {number}, bytes missing: {end - len(data)}")
+        if count:
+            yield number, decoded(data[at + 2 : end])
+        at = end
+    if at < len(data):
+        raise Fault(f"bytes behind its strings: {len(data) - at}")
+
+
+def texts_of_menu(name, data):
+    fields = Fields(data)
+    kind, skipped = fields.number(2), fields.number(2)
+    if kind > 1:
+        raise Fault(f"its format has no version {kind}")
+    fields.take(skipped)
+    while len(data) - fields.at >= 4 or any(data[fields.at :]):
+        if kind == 0:
+            options = fields.number(2)
+            number = 0 if options & 0x10 else fields.number(2)
+            text = fields.text()
+        else:
+            fields.align()
+            fields.take(8)
+            number, options = fields.number(4), fields.number(2)
+            text = fields.text()
+            if options & 1:
+                fields.align()
+                fields.take(4)
+        if text:
+            yield number, decoded(text)
+
+
+def texts_of_dialog(name, data):
+    fields, is_extended = Fields(data), data.startswith(b"\1\0\xff\xff")
+    if is_extended:
+        fields.take(12)
+    style = fields.number(4)
+    if not is_extended:
+        fields.take(4)
+    count = fields.number(2)
+    fields.take(8)
+    fields.text_or_number()
+    fields.text_or_number()
+    caption = fields.text()
+    if style & 0x40:
+        fields.take(6 if is_extended else 2)
+        fields.text()
+    if caption:
+        yield 0, decoded(caption)
+    for _ in range(count):
+        fields.align()
+        fields.take(20 if is_extended else 16)
+        number = fields.number(4 if is_extended else 2)
+        fields.text_or_number()
+        text = fields.text_or_number()
+        fields.take(fields.number(2))
+        if text:
+            yield number, decoded(text)
+
+
+def without_end(data, is_wide):
+    stripped = data.rstrip(b"\0")
+    return data[: len(stripped) + len(stripped) % 2] if is_wide else stripped
+
+
+def texts_of_messages(name, data):
+    if len(data) < 4:
+        raise Fault(f"its contents are cut off at their byte {len(data)}")
+    left = len(data) // 4
+    for block in range(int.from_bytes(data[:4], "little")):
+        start = 4 + 12 * block
+        if start + 12 > len(data):
+            raise Fault(f"its contents are cut off at their byte {min(start, len(data))}")
+        low, high, at = struct.unpack_from("<III", data, start)
+        for number in range(low, high + 1):
+            if left == 0:
+                raise Fault("it has fewer messages than it says")
+            length = int.from_bytes(data[at : at + 2], "little")
+            if at + 4 > len(data) or length < 4 or at + length > len(data):
+                raise Fault(f"its contents are cut off at their byte {min(at, len(data))}")
+            is_wide = data[at + 2] & 1 == 1
+            text = without_end(data[at + 4 : at + length], is_wide)
+            yield number, decoded(text) if is_wide else "".join(bytes([byte]).decode("cp1252", "ignore") or chr(byte) for byte in text)
+            left -= 1
+            at += length
+
+
+def nodes_in(data, whole):
+    """Yields the name, the value and the children of each node."""
+    while data:
+        length = int.from_bytes(data[:2], "little")
+        if len(data) < 2 or length < 6 or length > len(data):
+            raise Fault(f"its contents are cut off at their byte {len(whole)}")
+        fields = Fields(data[:length])
+        fields.cut = lambda: nodes_in(b"\0", whole).__next__()
+        fields.take(2)
+        size, is_text = fields.number(2), fields.number(2) == 1
+        name = fields.text()
+        fields.align()
+        value = fields.take(min(size * 2 if is_text else size, length - fields.at))
+        fields.align()
+        yield decoded(name), value, data[fields.at : length]
+        data = data[length + -length % 4 :]
+
+
+def texts_of_version(name, data):
+    root = next(nodes_in(data, data), None)
+    if root is None:
+        raise Fault(f"its contents are cut off at their byte {len(data)}")
+    for name, _, tables in nodes_in(root[2], data):
+        if name == "StringFileInfo":
+            for _, _, table in nodes_in(tables, data):
+                for key, value, _ in nodes_in(table, data):
+                    text = decoded(value).split("\0")[0]
+                    if text:
+                        yield key, text
+
+
+READERS = {MENU: texts_of_menu, DIALOG: texts_of_dialog, STRINGS: texts_of_strings, MESSAGES: texts_of_messages, VERSION: texts_of_version}
 
 
 class Reader:
-    """A reader of one file, from field to field."""
+    """A reader of one file."""
 
-    def __init__(self, name, data, is_lossy):
-        self.name, self.data, self.is_lossy = name, data, is_lossy
-        self.at = self.number = self.begin = 0
-        self.printed, self.reported = [], []
+    def __init__(self, data, options, prefix):
+        self.data, self.options, self.prefix = data, options, prefix
+        self.at = self.number = self.begin = self.skipped = 0
+        self.printed, self.reported, self.notes = [], [], []
 
     def report(self, what):
-        self.reported.append(f"{self.name}: resource {self.number} at byte {self.begin}: {what}\n")
+        self.reported.append(f"resource {self.number} at byte {self.begin}: {what}")
 
     def read(self):
+        for beginning, what in ((b"\x7fELF", "an ELF file"), (b"LazarusResources.Add", "Lazarus' text form of resources")):
+            if self.data.startswith(beginning):
+                return self.reported.append(f"{what}, which is not read")
+        if self.data[:1] == b"\xff" and self.data[2:4] == b"\0\xff" and self.data[1] < 0x20:
+            return self.reported.append("a 16-bit resource file, which is not read")
         if not self.data:
-            self.reported.append(f"{self.name}: no resource\n")
+            return self.reported.append("no resource")
+        if self.data.startswith(b"MZ"):
+            self.read_executable()
+        else:
+            self.read_file()
+        if "--skipped" in self.options and self.skipped:
+            self.notes.append(f"note: resources of other types: {self.skipped}")
+        return None
+
+    def read_file(self):
         while self.at < len(self.data):
             self.number, self.begin = self.number + 1, self.at
             try:
                 self.read_resource()
             except Fault as fault:
-                self.report(f"{fault}, bytes not read: {len(self.data) - self.begin}")
-                return
+                return self.report(f"{fault}, bytes not read: {len(self.data) - self.begin}")
+        return None
 
     def read_name(self, end):
         """Reads a number, or a text that ends in a zero unit; the header ends at `end`."""
@@ -102,19 +399,20 @@ class Reader:
             if found[0] == 0xFFFF and len(found) == 2:
                 return unit
             if found[0] != 0xFFFF and unit == 0:
-                return found
+                return decoded(struct.pack(f"<{len(found) - 1}H", *found[:-1]))
         raise Fault("its type or its name has no end")
 
     def read_resource(self):
         if len(self.data) - self.begin < 8:
             raise Fault("its sizes are cut off")
         data_size, header_size = struct.unpack_from("<II", self.data, self.begin)
-        header_end = self.begin + header_size
-        missing = header_end + data_size - len(self.data)
-        if header_size < 28 or header_size % 4:
+        data_begin = self.begin + header_size + -header_size % 4
+        missing = data_begin + data_size - len(self.data)
+        if header_size < 28:
             raise Fault(f"its header can't have {header_size} bytes")
-        if header_end > len(self.data):
+        if data_begin > len(self.data):
             raise Fault(f"bytes missing: {missing}")
+        header_end = self.begin + header_size
         self.at += 8
         kind = self.read_name(header_end)
         name = self.read_name(header_end)
@@ -122,68 +420,161 @@ class Reader:
         if self.at + 16 > header_end:
             raise Fault(f"its header can't have {header_size} bytes")
         _, _, language, _, _ = struct.unpack_from("<IHHII", self.data, self.at)
-        self.at = header_end + data_size
+        self.at = data_begin + data_size
         self.at += -self.at % 4
-        if self.begin == 0 and (header_size, data_size, kind, name) != (32, 0, 0, 0):
+        is_empty = (header_size, data_size, kind, name) == (32, 0, 0, 0)
+        if self.begin == 0 and not is_empty:
             self.report("is not the empty resource that a file begins with")
         if missing > 0:
             self.report(f"bytes missing: {missing}")
-        if kind == 6:
-            self.read_table(name, language, self.data[header_end : header_end + data_size])
+        if self.begin or not is_empty:
+            self.read_texts(kind, name, language, self.data[data_begin : data_begin + data_size])
 
-    def read_table(self, name, language, data):
-        if isinstance(name, list):
-            return self.report("a string table is named by a number, not by a text")
-        if name not in range(1, 4097):
-            return self.report(f"a string table is named 1 to 4096, not {name}")
-        at = 0
-        for number in range(16 * name - 16, 16 * name):
-            count = int.from_bytes(data[at : at + 2], "little") if at + 2 <= len(data) else 0
-            end = at + 2 + 2 * count
-            if end > len(data):
-                return self.report(f"ends in string {number}, bytes missing: {end - len(data)}")
-            self.read_string(number, language, data[at + 2 : end])
-            at = end
-        if at < len(data):
-            self.report(f"bytes behind its strings: {len(data) - at}")
-        return None
-
-    def read_string(self, number, language, data):
-        # An unpaired surrogate is a character of its own here.
-        text = data.decode("utf-16-le", "surrogatepass")
-        is_fault = [unicodedata.category(char) == "Cs" for char in text]
-        if not data:
+    def read_texts(self, kind, name, language, data):
+        if kind not in READERS:
+            self.skipped += 1
             return
-        if any(is_fault) and not self.is_lossy:
+        try:
+            for number, text in READERS[kind](name, data):
+                self.put(kind, name, language, number, text)
+        except Fault as fault:
+            self.report(str(fault))
+
+    def put(self, kind, name, language, number, text):
+        is_fault = [0xD800 <= ord(char) < 0xE000 for char in text]
+        if any(is_fault) and "--lossy" not in self.options:
             offset = 0
             for char, is_one in zip(text, is_fault):
                 if is_one:
-                    self.report(f"string {number}: fault {ord(char):04X} at unit {offset}")
+                    self.report(f"string {0 if kind == VERSION else number}: fault {ord(char):04X} at unit {offset}")
                 offset += len(units(char)) // 2
             return
-        text = "".join(
-            "\ufffd" if is_one else debug_of(char) for char, is_one in zip(text, is_fault)
-        )
-        self.printed.append(f'{language:04X} {number}: "{text}"\n')
+        text = "".join("\ufffd" if is_one else char for char, is_one in zip(text, is_fault))
+        label = LANGUAGES.get(language) if "--names" in self.options else None
+        label = f"{label or f'{language:04X}'} {WORDS[kind]}"
+        if kind in (MENU, DIALOG):
+            label += f"{name if isinstance(name, int) else shown(name, False)} "
+        label += shown(number, False) if kind == VERSION else str(number)
+        self.printed.append(f"{self.prefix}{label}: {shown(text, True)}\n")
+
+    def read_executable(self):
+        data = self.data
+        start = int.from_bytes(data[0x3C:0x40], "little")
+        if len(data) < 0x40:
+            return self.reported.append("its header is cut off")
+        if data[start : start + 4] != b"PE\0\0":
+            return self.reported.append("an executable without a PE header, which is not read")
+        count, length = (int.from_bytes(data[start + at : start + at + 2], "little") for at in (6, 20))
+        optional, headers = start + 24, start + 24 + length
+        if optional > len(data) or headers + 40 * count > len(data):
+            return self.reported.append("its header is cut off")
+        at = 108 if data[optional : optional + 2] == b"\x0b\x02" and length >= 2 else 92
+        field = lambda offset: int.from_bytes(data[optional + offset : optional + offset + 4], "little") if offset + 4 <= length else 0
+        address = field(at + 20)
+        if field(at) < 3 or not address:
+            return None
+        self.sections = [struct.unpack_from("<12xIII", data, headers + 40 * number) for number in range(count)]
+        begin = self.offset_of(address)
+        if begin is None or begin > len(data):
+            return self.reported.append("its resources are not where its header says")
+        return self.read_tree(data[begin:])
+
+    def offset_of(self, address):
+        for virtual, length, start in self.sections:
+            if 0 <= address - virtual < length:
+                return start + address - virtual
+        return None
+
+    def read_tree(self, section):
+        damages, found, left = [], [], [len(section) // 8 + 1]
+
+        def entries(directory):
+            """Yields the entries of a directory."""
+            if directory + 16 > len(section):
+                damages.append(directory)
+                return
+            named, numbered = struct.unpack_from("<HH", section, directory + 12)
+            for index in range(named + numbered):
+                at = directory + 16 + 8 * index
+                if at + 8 > len(section):
+                    damages.append(at)
+                    return
+                if left[0] == 0:
+                    return
+                left[0] -= 1
+                if left[0] == 0:
+                    damages.append(None)
+                    return
+                yield struct.unpack_from("<II", section, at)
+
+        def below(target):
+            if target < 0x80000000:
+                damages.append(target)
+                return
+            yield from entries(target & 0x7FFFFFFF)
+
+        for kind, names in entries(0):
+            for name, languages in below(names):
+                for language, target in below(languages):
+                    leaf = self.leaf(section, kind, name, target)
+                    if isinstance(leaf, int):
+                        damages.append(leaf)
+                    else:
+                        found.append((*leaf, language & 0xFFFF))
+        for kind, name, begin, data, language in found:
+            self.number, self.begin = self.number + 1, begin
+            self.read_texts(kind, name, language, data)
+        for damage in damages:
+            what = "has more entries than bytes" if damage is None else f"is cut off at byte {damage} of their section"
+            self.reported.append(f"the tree of its resources {what}")
+
+    def leaf(self, section, kind, name, at):
+        """Returns the type, the name, the offset and the contents of a resource, or where it is cut off."""
+        if at + 16 > len(section):
+            return at
+        address, length = struct.unpack_from("<II", section, at)
+        begin = self.offset_of(address)
+        if begin is None or begin + length > len(self.data):
+            return at
+        names = []
+        for number in (kind, name):
+            if number < 0x80000000:
+                names.append(number & 0xFFFF)
+                continue
+            text = number & 0x7FFFFFFF
+            end = text + 2 + 2 * int.from_bytes(section[text : text + 2], "little")
+            if text + 2 > len(section) or end > len(section):
+                return text
+            names.append(decoded(section[text + 2 : end]))
+        return *names, begin, self.data[begin : begin + length]
 
 
 def answer(arguments, files):
-    """Returns the expected output and reports, and the status. `files` has the bytes for each argument, or why they
-    can't be read."""
-    is_lossy = arguments[:1] == ["--lossy"]
-    names = arguments[1:] if is_lossy else arguments
-    if not names or any(name.startswith("--") for name in names):
-        return "", USAGE, 2
-    printed, reported = "", ""
+    """Returns the expected output and reports, and the status. `files` has the bytes of each file, or why it can't be
+    read."""
+    options, names = [], list(arguments)
+    while names and names[0].startswith("-") and len(names[0]) > 1:
+        option = names.pop(0)
+        if option == "--":
+            break
+        if option not in ("--lossy", "--names", "--skipped"):
+            return "", f"resources: unknown option '{option}'\n{USAGE}", 2
+        options.append(option)
+    if not names:
+        return "", f"resources: wrong arguments\n{USAGE}", 2
+    printed, reported, status = "", "", 0
     for name, data in zip(names, files):
         if isinstance(data, str):
-            reported += f"{name}: {data}\n"
+            reported += f"resources: {name}: {data}\n"
+            status = 1
             continue
-        reader = Reader(name, data, is_lossy)
+        prefix = f"{name}:" if len(names) > 1 else ""
+        reader = Reader(data, options, prefix)
         reader.read()
         printed += "".join(reader.printed)
-        reported += "".join(reader.reported)
-    return printed, reported, 1 if reported else 0
+        reported += "".join(f"{prefix + ' ' if prefix else ''}{line}\n" for line in reader.notes + reader.reported)
+        status = 1 if reader.reported else status
+    return printed, reported, status
 
 
 # The inputs: arguments, of which {} is the name of a file, and its bytes.
@@ -208,6 +599,7 @@ INPUTS = [
     (["{}", "--lossy"], file(OPEN)),
     (["--lossy", "--lossy", "{}"], file(OPEN)),
     (["--all", "{}"], file(OPEN)),
+    (["--names", "--skipped", "{}"], file(OPEN, table(3, "Öffnen", language=0x407), table(4, "?", language=0xFFFF), resource(10, 1, b"x"))),
     # Files without faults.
     one(EMPTY),
     one(file(table(1, *"abcdefghijklmnop"))),
@@ -221,6 +613,41 @@ INPUTS = [
     # A BOM and zero units belong to a text.
     one(file(table(1, "\ufeffa\0", '"\\\t\r\n\x7f', "\u200b\u0301\ue000é", "深海 🌊", "\0"))),
     one(file(table(3, "ab" * 40))),
+    # A header whose size is no multiple of four.
+    one(file(resource("ABC", 1, b"xyz", more=b"12"), OPEN)),
+    one(file(resource(6, 2, strings("x"), more=b"1"), OPEN)),
+    # The other types that have texts.
+    one(file(resource(MENU, 7, menu((0x10, 0, "&File"), (0, 11, "&Open"), (0, 0, ""), (0x80, 12, "E&xit"))), resource(MENU, "M\n", menu((0x80, 1, "a"))))),
+    one(file(resource(MENU, 8, menu_ex((1, 1, "&File"), (0, 11, "&Open"), (0, 0, ""), (0x80, 12, "E&xit"))))),
+    one(file(resource(DIALOG, 9, dialog("About", (1, 0x80, "OK"), (2, "EDIT", ""), (65535, 0x82, 5), font="MS Shell Dlg")))),
+    one(file(resource(DIALOG, "D", dialog("", (1, 0x80, "OK"), menu=3, kind="Class")))),
+    one(file(resource(DIALOG, 10, dialog_ex("About", (1, 0x80, "OK"), (4294967295, "STATIC", "深🌊"), font="MS Shell Dlg", extra=b"123")))),
+    one(file(resource(MESSAGES, 1, messages((1, "One\r\n", "Two"), (0x40000001, b"caf\xe9 \x81", "\U0001f30a"))))),
+    one(file(resource(VERSION, 1, version(("ProductName", "Deep sea"), ("Empty", ""), ("Comments", "a\\b")), language=0x40C))),
+    one(file(resource(VERSION, 1, version(("ProductName", "深"), tables=2)))),
+    # Faults of these.
+    one(file(resource(MENU, 7, menu((0, 1, "a"))[:-1]), resource(MENU, 8, b"\2\0\0\0"), resource(MENU, 9, b"\0\0\4\0"), resource(MENU, 10, b"\0"))),
+    one(file(resource(DIALOG, 9, dialog("About", (1, 0x80, "OK"))[:-3]), resource(DIALOG, 9, dialog_ex("")[:20]))),
+    one(file(resource(MESSAGES, 1, b"\1\0\0"), resource(MESSAGES, 1, struct.pack("<IIII", 1, 1, 0xFFFFFFFF, 16) + b"\4\0\0\0" * 9))),
+    one(file(resource(MESSAGES, 1, struct.pack("<IIII", 1, 1, 1, 16) + b"\3\0\0\0"), resource(MESSAGES, 1, struct.pack("<IIII", 2, 1, 1, 99)))),
+    one(file(resource(MESSAGES, 1, struct.pack("<I", 4) + struct.pack("<III", 1, 9, 52) * 4 + b"\4\0\0\0" * 9))),
+    one(file(resource(VERSION, 1, version(("A", "b"))[:-9]), resource(VERSION, 1, b""), resource(VERSION, 1, b"\5\0\0\0\0\0"))),
+    one(file(resource(MENU, 7, menu((0, 1, "\ud83d"))), resource(VERSION, 1, version(("A", "\udc00"))))),
+    # Executables.
+    one(executable((STRINGS, 2, 0x409, strings("", "Open")), (MENU, "MAIN", 0x407, menu((0x80, 3, "&Öffnen"))), (10, 1, 0, b"x"), ("TEXT", 1, 0, b"y"))),
+    one(executable((STRINGS, 2, 0x409, strings("", "Open")), (STRINGS, 2, 0x407, strings("", "Öffnen")), bits=64)),
+    (["--skipped", "{}"], executable((10, 1, 0, b"x"))),
+    one(executable((STRINGS, 2, 0x409, strings("x")), machine=b"NE\0\0")),
+    one(executable((STRINGS, 2, 0x409, strings("x")))[:40]),
+    one(executable((STRINGS, 2, 0x409, strings("x")))[:200]),
+    one(executable((STRINGS, 2, 0x409, strings("x")))[:-8]),
+    one(executable((STRINGS, 2, 0x409, strings("x")), more_entries=3)),
+    one(executable((STRINGS, 2, 0x409, strings("\ud83d")), (STRINGS, 0, 0x409, strings("")))),
+    one(executable()[:64] + b"PE\0\0" + bytes(20)),
+    # Other formats.
+    one(b"\x7fELF\2\1\1"),
+    one(b"LazarusResources.Add('TForm1','FORMDATA',["),
+    one(b"\xff\6\0\xff\1\0\x30\x10" + bytes(9)),
     # Faults of a file, and of a header.
     one(b""),
     one(b"\0"),
@@ -298,17 +725,56 @@ def random_file(source):
     return data[32:] if changed < 0.23 else padded(data)
 
 
+def random_texts(source):
+    """Returns a type and contents with texts, which may be damaged."""
+    text = lambda: random_text(source).replace("\0", "")
+    number = lambda: source.choice([0, 1, 7, 65535])
+    kind, data = source.choice(
+        [
+            (STRINGS, lambda: strings(*[text() for _ in range(source.randint(0, 16))])),
+            (MENU, lambda: menu(*[(source.choice([0, 0x10, 0x80]), number(), text()) for _ in range(3)])),
+            (MENU, lambda: menu_ex(*[(source.choice([0, 1, 0x80]), number(), text()) for _ in range(3)])),
+            (DIALOG, lambda: dialog(text(), *[(number(), 0x80, text()) for _ in range(2)], font=source.choice([None, "F"]))),
+            (DIALOG, lambda: dialog_ex(text(), *[(number(), "C", text()) for _ in range(2)], extra=bytes(source.randint(0, 3)))),
+            (MESSAGES, lambda: messages((number(), text(), b"x\xe9"), (9, text()))),
+            (VERSION, lambda: version((text(), text()), ("A", text()), tables=source.randint(0, 2))),
+        ]
+    )
+    return kind, data()
+
+
+def damaged(source, data):
+    changed = source.random()
+    if changed < 0.1:
+        return data[: source.randint(0, len(data))]
+    data = bytearray(data)
+    for _ in range(source.randint(1, 3) if changed < 0.3 and data else 0):
+        data[source.randrange(len(data))] = source.choice([0, 1, 2, 6, 0x80, 0xD8, 0xFF])
+    return bytes(data)
+
+
+def random_executable(source):
+    resources = []
+    for _ in range(source.randint(0, 4)):
+        kind, data = random_texts(source)
+        resources.append((source.choice([kind, kind, kind, 10, "T"]), source.choice([1, 2, 3, "N"]), source.choice([0x407, 0x409, 0]), damaged(source, data)))
+    return damaged(source, executable(*resources, bits=source.choice([32, 64]), more_entries=source.choice([0] * 9 + [1, 1000])))
+
+
+def random_input(source):
+    """Returns a file of any form."""
+    form = source.random()
+    if form < 0.4:
+        return random_file(source)
+    if form < 0.7:
+        return random_executable(source)
+    texts = [random_texts(source) for _ in range(source.randint(1, 4))]
+    return file(*[resource(kind, source.choice([1, 2, "N"]), damaged(source, data), source.choice([0x407, 0x409])) for kind, data in texts])
+
+
 def question(source, folder):
-    while True:
-        try:
-            return one_question(source, folder)
-        except Unassigned:
-            continue
-
-
-def one_question(source, folder):
-    arguments = source.choice([[], [], ["--lossy"]])
-    files = [random_file(source) for _ in range(source.choice([1, 1, 1, 2, 3]))]
+    arguments = source.choice([[], [], ["--lossy"], ["--names"], ["--skipped"], ["--lossy", "--names"]])
+    files = [random_input(source) for _ in range(source.choice([1, 1, 1, 2, 3]))]
     names = [f"{number}.res" for number in range(len(files))]
     for number, name in enumerate(names):
         with open(f"{folder}/{name}", "wb") as written:
@@ -317,7 +783,7 @@ def one_question(source, folder):
         files[-1], names[-1] = UNREADABLE, "no.res"
     arguments = [*arguments, *names]
     if source.random() < 0.02:
-        arguments.insert(source.randint(0, len(arguments)), source.choice(["--lossy", "--", "--no"]))
+        arguments.insert(0, source.choice(["--lossy", "--no"]))
     printed, reported, status = answer(arguments, files)
     return arguments, printed.encode(), reported.encode(), status
 
@@ -326,5 +792,8 @@ def cases():
     for arguments, file in INPUTS:
         # A copy of the file has this name.
         names = ["case" if argument == "{}" else argument for argument in arguments]
-        printed, reported, status = answer(names, [file if argument == "{}" else UNREADABLE for argument in arguments if not argument.startswith("--")])
+        words = list(arguments)
+        while words and words[0].startswith("--"):
+            words.pop(0)
+        printed, reported, status = answer(names, [file if word == "{}" else UNREADABLE for word in words])
         yield "", arguments, file, printed.encode(), reported.encode(), status

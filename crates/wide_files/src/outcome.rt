@@ -71,6 +71,16 @@ impl<'a> Outcome<'a> {
         self.report(format_args!("line {line}, unit {unit}: {what}"))
     }
 
+    /// Notes something about the file, which does not change the status.
+    ///
+    /// # Errors
+    ///
+    /// If an allocation fails.
+    pub fn note<T: Display + Drop>(&mut self, what: T) -> Result<(), AllocError> {
+        let separator = if self.file.is_empty() { "" } else { ": " };
+        writeln!(self.notes, "{}{separator}note: {what}", self.file)
+    }
+
     /// Notes something about a place, which does not change the status.
     ///
     /// # Errors
