@@ -24,9 +24,7 @@ impl<'a> Cursor<'a> {
     }
 
     /// Returns how many bytes were read.
-    pub fn at(self) -> usize
-        ensures { result ≤ self.len }
-    {
+    pub fn at(self) -> usize {
         self.len - self.rest.len()
     }
 

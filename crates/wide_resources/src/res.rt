@@ -51,7 +51,8 @@ pub struct Resource<'a> {
 
 // Returns the size of a header with its padding.
 fn padded(header_size: u32) -> usize
-    ensures { header_size ≤ result }
+    ensures least { header_size ≤ result }
+    ensures most { result ≤ header_size + 3 }
 {
     (header_size as usize).next_multiple_of(4)
 }
@@ -59,7 +60,8 @@ fn padded(header_size: u32) -> usize
 impl Resource<'_> {
     /// Returns its size in bytes, without padding at its end.
     pub fn size(&self) -> usize
-        ensures { self.now.data_size ≤ result }
+        ensures least { self.now.header_size + self.now.data_size ≤ result }
+        ensures most { result ≤ self.now.header_size + self.now.data_size + 3 }
     {
         padded(self.header_size) + self.data_size as usize
     }

@@ -28,7 +28,8 @@ fn fields_of(node: &[u8]) -> Option<Node<'_>> {
     let name = cursor.text()?;
     cursor.align();
     let value_len = if is_text { 2 * value_len } else { value_len };
-    let value = cursor.take(value_len.min(cursor.rest.len()))?;
+    let most = cursor.rest.len();
+    let value = cursor.take(value_len.min(most))?;
     cursor.align();
     Some(Node {
         name,
