@@ -154,18 +154,17 @@ impl<'a> Reader<'a> {
         let mut reports = reports;
         let mut export = Export::new(text);
         if text.is_empty() {
-            let place = reports.place_of(0);
+            let place = reports.advance(outcome, 0)?;
             outcome.report_at(place, wide_registry::Kind::NoHeader)?;
         }
         while let Some(part) = export.next(self.alloc)? {
             let end = text.len().saturating_sub(export.rest.len());
             let start = end.saturating_sub(part.units.len());
-            let mut before = reports;
+            let place = reports.advance(outcome, start)?;
             for damage in &part.damages {
                 reports.report(outcome, start, *damage)?;
             }
             if let Some(byte) = self.read_part(&mut outcome.output, &part)? {
-                let place = before.place_of(start);
                 outcome.report_at(place, format_args!("half of a unit, {byte:02x}"))?;
             }
         }

@@ -35,7 +35,7 @@ impl<'a> Reports<'a> {
     }
 
     // Returns the place of a unit that is not before what has been reported.
-    pub fn place_of(&mut self, offset: usize) -> Place {
+    fn place_of(&mut self, offset: usize) -> Place {
         let between = self.text.get(self.offset..offset).unwrap_or_default();
         self.place = place_after(self.place, between);
         self.offset = self.offset.max(offset);
@@ -58,6 +58,16 @@ impl<'a> Reports<'a> {
             self.bad = others;
         }
         Ok(())
+    }
+
+    // Reports what is before a part that begins at this offset, and returns its place.
+    pub fn advance(
+        &mut self,
+        outcome: &mut Outcome<'_>,
+        start: usize,
+    ) -> Result<Place, AllocError> {
+        self.report_bad(outcome, start)?;
+        Ok(self.place_of(start))
     }
 
     // Returns whether a damage is reported: the first line end of each kind is enough.
