@@ -157,7 +157,7 @@ impl<'a> Reader<'a> {
             let place = reports.advance(outcome, 0)?;
             outcome.report_at(place, wide_registry::Kind::NoHeader)?;
         }
-        while let Some(part) = export.next(self.alloc)? {
+        'parts: while let Some(part) = export.next(self.alloc)? {
             let end = text.len().saturating_sub(export.rest.len());
             let start = end.saturating_sub(part.units.len());
             let place = reports.advance(outcome, start)?;

@@ -44,9 +44,9 @@ impl<'a> Reports<'a> {
 
     // Reports the bytes before a unit that are no text.
     fn report_bad(&mut self, outcome: &mut Outcome<'_>, before: usize) -> Result<(), AllocError> {
-        while let [bad, others @ ..] = self.bad {
+        'bad: while let [bad, others @ ..] = self.bad {
             if bad.unit >= before {
-                break;
+                break 'bad;
             }
             let place = self.place_of(bad.unit);
             match (bad.number, self.half) {
