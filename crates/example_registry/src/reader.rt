@@ -59,6 +59,20 @@ impl<'a> Reader<'a> {
         put_value(self.alloc, output, self.key, name, data)
     }
 
+    // Prints a value with bytes that are text, or several texts, as JSON.
+    fn put_text(
+        &self,
+        output: &mut String,
+        name: Option<&[u16]>,
+        number: u32,
+        text: &[u16],
+    ) -> Result<(), OutOfMemory> {
+        match kind_of(number) {
+            Kind::Texts => self.put_json(output, name, Json::Texts(number, text)),
+            _ => self.put_json(output, name, Json::Text(number, text)),
+        }
+    }
+
     // Prints a value with bytes. If half of a unit is left, its text is not all of it, so JSON has the bytes.
     fn read_bytes(
         &self,
@@ -77,16 +91,14 @@ impl<'a> Reader<'a> {
         let Some(bytes) = &found.bytes else {
             return Ok(None);
         };
-        let text = match &found.text {
-            Some(text) => text.as_slice(),
-            None => &[],
-        };
-        let data = match kind_of(number) {
-            Kind::Text if found.half.is_none() => Json::Text(number, text),
-            Kind::Texts if found.half.is_none() => Json::Texts(number, text),
-            _ => Json::Bytes(number, bytes),
-        };
-        self.put_json(output, name, data)?;
+        if kind_of(number) == Kind::Other || found.half.is_some() {
+            self.put_json(output, name, Json::Bytes(number, bytes))?;
+        } else {
+            match &found.text {
+                Some(text) => self.put_text(output, name, number, text)?,
+                None => self.put_text(output, name, number, &[])?,
+            }
+        }
         Ok(found.half)
     }
 
