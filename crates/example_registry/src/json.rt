@@ -79,21 +79,21 @@ fn without_nul(text: &[u16]) -> &[u16] {
 
 // Prints texts that each end in a NUL, and another NUL behind them.
 fn put_texts(output: &mut String, texts: &[u16]) -> Result<(), AllocError> {
-    output.push('[')?;
-    let mut rest = match without_nul(texts) {
-        [] => None,
-        texts => Some(without_nul(texts)),
-    };
-    let mut comma = "";
-    while let Some(texts) = rest {
-        let at = texts.iter().position(|unit| *unit == 0);
-        let (text, behind) = texts.split_at(at.unwrap_or(texts.len()));
-        write!(output, "{comma}{}", JsonText(text))?;
-        comma = ",";
-        rest = match behind {
-            [_, behind @ ..] => Some(behind),
-            [] => None,
-        };
+    let strings = without_nul(texts);
+    if strings.is_empty() {
+        return output.push_str("[]");
+    }
+    let mut rest = without_nul(strings);
+    let mut separator = "[";
+    'texts: loop {
+        let at = rest.iter().position(|unit| *unit == 0);
+        let (text, behind) = rest.split_at(at.unwrap_or(rest.len()));
+        write!(output, "{separator}{}", JsonText(text))?;
+        separator = ",";
+        match behind {
+            [_, others @ ..] => rest = others,
+            [] => break 'texts,
+        }
     }
     output.push(']')
 }

@@ -10,7 +10,7 @@ const FEED: u16 = b'\n' as u16;
 pub fn place_after(place: Place, units: &[u16]) -> Place {
     let Place { mut line, mut unit } = place;
     let mut rest = units;
-    while let [first, others @ ..] = rest {
+    'units: while let [first, others @ ..] = rest {
         let ends = match rest {
             [RETURN, FEED, ..] => false,
             _ => *first == RETURN || *first == FEED,

@@ -16,12 +16,15 @@ pub fn put_line(output: &mut String, part: &[u16]) -> Result<(), AllocError> {
 }
 
 // Prints the bytes of a line, each after a space.
-fn put_pieces(output: &mut String, pieces: Option<&[u16]>) -> Result<(), AllocError> {
-    let mut left = pieces;
-    while let Some(pieces) = left {
-        let (piece, rest) = split_piece(pieces);
+fn put_pieces(output: &mut String, pieces: &[u16]) -> Result<(), AllocError> {
+    let mut rest = pieces;
+    'pieces: loop {
+        let (piece, behind) = split_piece(rest);
         write!(output, " {}", shown(piece))?;
-        left = rest;
+        match behind {
+            Some(behind) => rest = behind,
+            None => break 'pieces,
+        }
     }
     Ok(())
 }
@@ -39,10 +42,12 @@ pub fn put_bytes(
     let mut comments = String::new(*output.allocator());
     let mut rest = digits;
     let mut is_first = true;
-    while !rest.is_empty() {
+    'lines: while !rest.is_empty() {
         let line = first_line(rest);
         let parts = ByteLine::of(line.units, is_first);
-        put_pieces(output, parts.pieces)?;
+        if let Some(pieces) = parts.pieces {
+            put_pieces(output, pieces)?;
+        }
         if !parts.comment.is_empty() {
             write!(comments, " {}", shown(without_marks(parts.comment)))?;
         }

@@ -59,6 +59,20 @@ impl<'a> Reader<'a> {
         put_value(self.alloc, output, self.key, name, data)
     }
 
+    // Prints a value with bytes that are text, or several texts, as JSON.
+    fn put_text(
+        &self,
+        output: &mut String,
+        name: Option<&[u16]>,
+        number: u32,
+        text: &[u16],
+    ) -> Result<(), OutOfMemory> {
+        match kind_of(number) {
+            Kind::Texts => self.put_json(output, name, Json::Texts(number, text)),
+            _ => self.put_json(output, name, Json::Text(number, text)),
+        }
+    }
+
     // Prints a value with bytes. If half of a unit is left, its text is not all of it, so JSON has the bytes.
     fn read_bytes(
         &self,
@@ -77,16 +91,14 @@ impl<'a> Reader<'a> {
         let Some(bytes) = &found.bytes else {
             return Ok(None);
         };
-        let text = match &found.text {
-            Some(text) => text.as_slice(),
-            None => &[],
-        };
-        let data = match kind_of(number) {
-            Kind::Text if found.half.is_none() => Json::Text(number, text),
-            Kind::Texts if found.half.is_none() => Json::Texts(number, text),
-            _ => Json::Bytes(number, bytes),
-        };
-        self.put_json(output, name, data)?;
+        if kind_of(number) == Kind::Other || found.half.is_some() {
+            self.put_json(output, name, Json::Bytes(number, bytes))?;
+        } else {
+            match &found.text {
+                Some(text) => self.put_text(output, name, number, text)?,
+                None => self.put_text(output, name, number, &[])?,
+            }
+        }
         Ok(found.half)
     }
 
@@ -154,18 +166,17 @@ impl<'a> Reader<'a> {
         let mut reports = reports;
         let mut export = Export::new(text);
         if text.is_empty() {
-            let place = reports.place_of(0);
+            let place = reports.advance(outcome, 0)?;
             outcome.report_at(place, wide_registry::Kind::NoHeader)?;
         }
-        while let Some(part) = export.next(self.alloc)? {
+        'parts: while let Some(part) = export.next(self.alloc)? {
             let end = text.len().saturating_sub(export.rest.len());
             let start = end.saturating_sub(part.units.len());
-            let mut before = reports;
+            let place = reports.advance(outcome, start)?;
             for damage in &part.damages {
                 reports.report(outcome, start, *damage)?;
             }
             if let Some(byte) = self.read_part(&mut outcome.output, &part)? {
-                let place = before.place_of(start);
                 outcome.report_at(place, format_args!("half of a unit, {byte:02x}"))?;
             }
         }

@@ -35,7 +35,7 @@ impl<'a> Reports<'a> {
     }
 
     // Returns the place of a unit that is not before what has been reported.
-    pub fn place_of(&mut self, offset: usize) -> Place {
+    fn place_of(&mut self, offset: usize) -> Place {
         let between = self.text.get(self.offset..offset).unwrap_or_default();
         self.place = place_after(self.place, between);
         self.offset = self.offset.max(offset);
@@ -44,9 +44,9 @@ impl<'a> Reports<'a> {
 
     // Reports the bytes before a unit that are no text.
     fn report_bad(&mut self, outcome: &mut Outcome<'_>, before: usize) -> Result<(), AllocError> {
-        while let [bad, others @ ..] = self.bad {
+        'bad: while let [bad, others @ ..] = self.bad {
             if bad.unit >= before {
-                break;
+                break 'bad;
             }
             let place = self.place_of(bad.unit);
             match (bad.number, self.half) {
@@ -58,6 +58,16 @@ impl<'a> Reports<'a> {
             self.bad = others;
         }
         Ok(())
+    }
+
+    // Reports what is before a part that begins at this offset, and returns its place.
+    pub fn advance(
+        &mut self,
+        outcome: &mut Outcome<'_>,
+        start: usize,
+    ) -> Result<Place, AllocError> {
+        self.report_bad(outcome, start)?;
+        Ok(self.place_of(start))
     }
 
     // Returns whether a damage is reported: the first line end of each kind is enough.

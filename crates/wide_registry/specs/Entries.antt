@@ -1,5 +1,5 @@
 -- What a part says.
-use Rattle.std.specs.Prelude.{◌≡◌, ℕ, ◌-◌, Bool, true, false, ◌||◌, List, [], ◌∷◌, drop, length, nat_lt, ◌==◌, ⊤}
+use Rattle.std.specs.Prelude.{◌≡◌, ℕ, ◌-◌, Bool, true, false, not, ◌&&◌, ◌||◌, List, [], ◌∷◌, drop, length, nat_lt, ◌==◌, ⊤}
 use Rattle.std.specs.List.{before_first}
 use Rattle.wide_registry.specs.Escapes.{has_good_escapes}
 use Rattle.wide_registry.specs.Headers.{IsHeader}
@@ -78,3 +78,24 @@ IsEscaped (Header header) = ⊤
 IsEscaped (Key key) = ⊤
 IsEscaped (Value value) = HasGoodEscapes value.data
 IsEscaped Nothing = ⊤
+
+-- Whether a part is the header.
+abbrev pub is_header : Entry → Bool
+is_header (Header header) = true
+is_header (Key key) = false
+is_header (Value value) = false
+is_header Nothing = false
+
+-- Whether a part is a value.
+abbrev pub is_value : Entry → Bool
+is_value (Header header) = false
+is_value (Key key) = false
+is_value (Value value) = true
+is_value Nothing = false
+
+-- Whether a key is above what is behind a part: a key that is not deleted, or one above the part.
+abbrev pub key_after : Entry → Bool → Bool
+key_after (Header header) has_key = has_key
+key_after (Key key) has_key = not key.is_deleted && nat_lt 0 (length key.path.now)
+key_after (Value value) has_key = has_key
+key_after Nothing has_key = has_key

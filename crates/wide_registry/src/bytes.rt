@@ -1,8 +1,8 @@
 //! The bytes of a value.
 
-ghost use Rattle.std.specs.Prelude.{◌≡◌, ◌<◌, ◌≤◌, ◌+◌, ◌*◌, ◌==◌, IfOk, IfSome, length, vec_len, OnOk};
+ghost use Rattle.std.specs.Prelude.{◌≡◌, ◌<◌, ◌≤◌, ◌+◌, ◌*◌, ◌==◌, ◌≢◌, All, IsNone, false, IfOk, IfSome, length, vec_len, OnOk};
 ghost use Rattle.std.specs.List.{before_first};
-ghost use Rattle.wide_registry.specs.Lines.{without_blanks};
+ghost use Rattle.wide_registry.specs.Lines.{behind_line, is_line_end, without_blanks};
 
 use crate::damage::Kind;
 use crate::digits::byte_of;
@@ -34,7 +34,8 @@ pub struct ByteLine<'a> {
 // Returns the bytes before the backslash at which a line ends, if it may be there: behind a comma, or alone in the first
 // line.
 fn before_backslash(data: &[u16], is_first: bool) -> Option<&[u16]>
-    ensures { IfSome result (λ body. length body.now ≤ length «data».now) }
+    ensures within { IfSome result (λ body. length body.now ≤ length «data».now) }
+    ensures none { All (λ unit. unit ≢ BACKSLASH) «data».now → IsNone result }
 {
     let [body @ .., BACKSLASH] = data else {
         return None;
@@ -50,7 +51,8 @@ fn before_backslash(data: &[u16], is_first: bool) -> Option<&[u16]>
 impl<'a> ByteLine<'a> {
     /// Returns what a line of a value has. The first one begins behind the colon.
     pub fn of(line: &'a [u16], is_first: bool) -> ByteLine<'a>
-        ensures { IfSome result.pieces (λ pieces. length pieces.now ≤ length line.now) }
+        ensures pieces { IfSome result.pieces (λ pieces. length pieces.now ≤ length line.now) }
+        ensures alone { All (λ unit. unit ≢ BACKSLASH) line.now → result.goes_on ≡ false }
     {
         let (data, comment) = split_before(without_blanks(line), SEMICOLON);
         let data = without_last_blanks(data);
@@ -102,17 +104,29 @@ fn next_bytes(text: &[u16]) -> Option<&[u16]>
 pub fn behind_bytes(text: &[u16]) -> &[u16]
     ensures within { length result.now ≤ length text.now }
     ensures progress { 0 < length text.now → length result.now < length text.now }
+    ensures alone { All (λ unit. unit ≢ BACKSLASH) (before_first is_line_end text.now) → result.now ≡ behind_line text.now }
 {
-    let mut line = first_line(text);
-    let mut is_first = true;
-    while ByteLine::of(line.units, is_first).goes_on {
-        let Some(next) = next_bytes(line.rest) else {
-            return line.rest;
-        };
-        line = first_line(next);
-        is_first = false;
+    let line = first_line(text);
+    if ByteLine::of(line.units, true).goes_on {
+        behind_more(line.rest)
+    } else {
+        line.rest
     }
-    line.rest
+}
+
+// Returns what follows the bytes of a value that goes on. The text begins behind the line that says so.
+fn behind_more(text: &[u16]) -> &[u16]
+    ensures { length result.now ≤ length text.now }
+{
+    let mut rest = text;
+    while let Some(next) = next_bytes(rest) {
+        let line = first_line(next);
+        if !ByteLine::of(line.units, false).goes_on {
+            return line.rest;
+        }
+        rest = line.rest;
+    }
+    rest
 }
 
 /// Returns the first piece without the blanks before it, and the pieces behind the comma that follows it.

@@ -1,6 +1,6 @@
 //! Reads an export part by part.
 
-ghost use Rattle.std.specs.Prelude.{◌≡◌, ◌<◌, ◌≤◌, ◌↔◌, ◌++◌, ◌-◌, [], ◌∷◌, All, IfOk, OnOk, drop, IfSome, IsNone, OnErr, false, length, vec_len};
+ghost use Rattle.std.specs.Prelude.{◌≡◌, ◌<◌, ◌≤◌, ◌↔◌, ◌++◌, ◌-◌, [], ◌∷◌, All, IfOk, OnOk, drop, IfSome, IsNone, OnErr, OnSome, false, true, length, vec_len};
 
 use crate::damage::Damage;
 use crate::entry::{Entry, behind_part};
@@ -25,19 +25,23 @@ pub struct Part<'a> {
 pub struct Export<'a> {
     /// The text that is left.
     pub rest: &'a [u16],
-    is_first: bool,
-    has_key: bool,
+    /// Whether nothing has been read.
+    pub is_first: bool,
+    /// Whether a key is above the text that is left.
+    pub has_key: bool,
 }
 
 impl<'a> Export<'a> {
     ghost use Rattle.wide_forms.specs.EncodingForm.{Utf16};
     ghost use Rattle.wide_forms.specs.Items.{IsWellFormed};
-    ghost use Rattle.wide_registry.specs.Entries.{Begins, EndsInBytes, IsEscaped, first_words, is_read, says_nothing};
+    ghost use Rattle.wide_registry.specs.Entries.{Begins, EndsInBytes, IsEscaped, first_words, is_header, is_read, is_value, key_after, says_nothing};
     ghost use Rattle.wide_registry.specs.Lines.{begins_value, behind_line};
 
     /// Returns an export of which nothing has been read. The text has no BOM.
     pub fn new(text: &'a [u16]) -> Export<'a>
-        ensures { result.rest.now ≡ text.now }
+        ensures rest { result.rest.now ≡ text.now }
+        ensures first { result.is_first ≡ true }
+        ensures no_key { result.has_key ≡ false }
     {
         Export {
             rest: text,
@@ -62,6 +66,13 @@ impl<'a> Export<'a> {
         ensures digits { IfOk result (λ part. IfSome part (λ part. EndsInBytes part.units.now part.entry)) }
 
         ensures begins { IfOk result (λ part. IfSome part (λ part. Begins part.units.now part.entry)) }
+
+        // The first part is the header, and a value has a key above it, or else there is a damage.
+        ensures header { self.old.is_first ≡ true → IfOk result (λ part. IfSome part (λ part. is_header part.entry ≡ false → 0 < vec_len part.damages)) }
+        ensures headers { self.old.is_first ≡ false → IfOk result (λ part. IfSome part (λ part. is_header part.entry ≡ false)) }
+        ensures first { IfOk result (λ part. OnSome part (self.new.is_first ≡ false)) }
+        ensures under_key { self.old.has_key ≡ false → IfOk result (λ part. IfSome part (λ part. is_value part.entry ≡ true → 0 < vec_len part.damages)) }
+        ensures key { IfOk result (λ part. IfSome part (λ part. self.new.has_key ≡ key_after part.entry self.old.has_key)) }
 
         // A line that is no value is a part by itself.
         ensures one_line { OnOk result (begins_value (first_words self.old.rest.now) ≡ false → self.new.rest.now ≡ behind_line self.old.rest.now) }

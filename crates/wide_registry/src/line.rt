@@ -94,7 +94,8 @@ pub fn without_blanks(line: &[u16]) -> &[u16]
 
 // Returns a line without the blanks at its end.
 pub fn without_last_blanks(line: &[u16]) -> &[u16]
-    ensures { length result.now ≤ length line.now }
+    ensures front { result.now ≡ take (length result.now) line.now }
+    ensures within { length result.now ≤ length line.now }
 {
     match line.iter().rposition(|unit| !is_blank(*unit)) {
         Some(at) => line.split_at(at + 1).0,

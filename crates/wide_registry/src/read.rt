@@ -1,9 +1,9 @@
 //! What a part says, and what is damaged in it.
 
-ghost use Rattle.std.specs.Prelude.{◌≡◌, ◌<◌, ◌≤◌, ◌-◌, [], ◌∷◌, IfOk, IfSome, drop, MatchOption, OnOk, false, length, nat_lt, vec_len};
+ghost use Rattle.std.specs.Prelude.{◌≡◌, ◌<◌, ◌≤◌, ◌-◌, [], ◌∷◌, IfOk, IfSome, drop, MatchOption, OnOk, false, true, length, nat_lt, vec_len};
 ghost use Rattle.wide_forms.specs.EncodingForm.{Utf16};
 ghost use Rattle.wide_forms.specs.Items.{IsWellFormed};
-ghost use Rattle.wide_registry.specs.Entries.{Begins, EndsInBytes, EndsInData, HasGoodEscapes, IsEscaped, is_comment, is_data, is_read, says_nothing};
+ghost use Rattle.wide_registry.specs.Entries.{Begins, EndsInBytes, EndsInData, HasGoodEscapes, IsEscaped, is_comment, is_data, is_header, is_read, is_value, says_nothing};
 
 use crate::bytes::{AT, OPENING, SEMICOLON, note_bytes};
 use crate::damage::Kind;
@@ -194,6 +194,9 @@ fn read_entry<'a>(
     ensures digits { IfOk result (λ entry. EndsInBytes part.now entry) }
     ensures escapes { IfOk result (λ entry. vec_len notes.new.damages ≤ vec_len notes.old.damages → IsEscaped entry) }
     ensures begins { IfOk result (λ entry. Begins part.now entry) }
+    ensures header { context.is_first ≡ true → IfOk result (λ entry. is_header entry ≡ false → vec_len notes.old.damages < vec_len notes.new.damages) }
+    ensures headers { context.is_first ≡ false → IfOk result (λ entry. is_header entry ≡ false) }
+    ensures under_key { context.has_key ≡ false → IfOk result (λ entry. is_value entry ≡ true → vec_len notes.old.damages < vec_len notes.new.damages) }
 {
     let units = first_line(part).units;
     let left = part.len().saturating_sub(units.len());
@@ -271,6 +274,9 @@ pub fn read_part<'a>(
     ensures begins { IfOk result (λ entry. Begins part.now entry) }
     ensures well_formed { OnOk result (vec_len notes.new.damages ≤ vec_len notes.old.damages → IsWellFormed Utf16 part.now) }
     ensures line_end { OnOk result (vec_len notes.new.damages ≤ vec_len notes.old.damages → drop (length part.now - 2) part.now ≡ 0xd ∷ 0xa ∷ []) }
+    ensures header { context.is_first ≡ true → IfOk result (λ entry. is_header entry ≡ false → vec_len notes.old.damages < vec_len notes.new.damages) }
+    ensures headers { context.is_first ≡ false → IfOk result (λ entry. is_header entry ≡ false) }
+    ensures under_key { context.has_key ≡ false → IfOk result (λ entry. is_value entry ≡ true → vec_len notes.old.damages < vec_len notes.new.damages) }
 {
     let entry = read_entry(notes, part, context)?;
     let end = part.len().saturating_sub(without_end(part).len());
