@@ -412,7 +412,8 @@ class Reader:
             raise Fault(f"its header can't have {header_size} bytes")
         if data_begin > len(self.data):
             raise Fault(f"bytes missing: {missing}")
-        header_end = self.begin + header_size
+        # The size may leave out the padding behind the names.
+        header_end = data_begin
         self.at += 8
         kind = self.read_name(header_end)
         name = self.read_name(header_end)
@@ -615,6 +616,8 @@ INPUTS = [
     one(file(table(3, "ab" * 40))),
     # A header whose size is no multiple of four.
     one(file(resource("ABC", 1, b"xyz", more=b"12"), OPEN)),
+    one(file(resource("UNICODE", "ARABIC", b"xyz", header_size=54), OPEN)),
+    one(file(resource("UNICODE", "ARABIC", b"xyz", header_size=52), OPEN)),
     one(file(resource(6, 2, strings("x"), more=b"1"), OPEN)),
     # The other types that have texts.
     one(file(resource(MENU, 7, menu((0x10, 0, "&File"), (0, 11, "&Open"), (0, 0, ""), (0x80, 12, "E&xit"))), resource(MENU, "M\n", menu((0x80, 1, "a"))))),

@@ -85,7 +85,8 @@ fn split_name(bytes: &[u8]) -> Option<(Name<'_>, &[u8])> {
     Some((Name::Text(text), units.get(end + 1..)?.as_flattened()))
 }
 
-// Reads the resource at the start of some bytes. A header whose size is no multiple of four is followed by padding.
+// Reads the resource at the start of some bytes. A header whose size is no multiple of four is followed by padding, or its
+// size leaves out the padding within it.
 fn read_resource(bytes: &[u8]) -> Result<Resource<'_>, Damage>
     ensures data_size { IfOk result (λ it. it.data_size ≡ from_le_bytes w32 (take 4 bytes.now)) }
     ensures header_size { IfOk result (λ it. it.header_size ≡ from_le_bytes w32 (take 4 (drop 4 bytes.now))) }
@@ -101,7 +102,7 @@ fn read_resource(bytes: &[u8]) -> Result<Resource<'_>, Damage>
         let size = padded(header_size) + data_size as usize;
         return Err(Damage::Missing(size.saturating_sub(bytes.len())));
     };
-    let names = header.get(8..header_size as usize).unwrap_or_default();
+    let names = header.get(8..).unwrap_or_default();
     let (kind, beyond) = split_name(names).ok_or(Damage::NoEnd)?;
     let (name, beyond) = split_name(beyond).ok_or(Damage::NoEnd)?;
     // The other fields of the header begin at a multiple of four.
