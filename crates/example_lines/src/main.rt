@@ -70,7 +70,10 @@ impl Lines {
     fn put_offsets(&self, output: &mut String, line: U16Str<'_>) -> Result<(), AllocError> {
         let mut from = 0;
         let mut separator = "";
-        while let Some(rest) = line.get(from..) {
+        for _ in 0..line.len().saturating_add(1) {
+            let Some(rest) = line.get(from..) else {
+                break;
+            };
             let Some(offset) = self.find(rest) else {
                 break;
             };

@@ -216,7 +216,10 @@ impl Subtitles {
         let mut rest = document.units.as_slice();
         let mut bad = document.bad.as_slice();
         let (mut start, mut unit) = (0usize, 0);
-        while let Some((line, tail)) = first_line(rest) {
+        for _ in 0..document.units.len() {
+            let Some((line, tail)) = first_line(rest) else {
+                break;
+            };
             let next = start.saturating_add(rest.len().saturating_sub(tail.len()));
             let count = bad.iter().take_while(|bytes| bytes.unit < next).count();
             let (of_line, others) = bad.split_at(count.min(bad.len()));
