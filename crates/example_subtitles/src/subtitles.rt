@@ -214,22 +214,23 @@ impl Subtitles {
         outcome: &mut Outcome<'_>,
     ) -> Result<(), OutOfMemory> {
         let mut rest = document.units.as_slice();
-        let mut bad = document.bad.as_slice();
-        let (mut start, mut unit) = (0usize, 0);
+        let bad = document.bad.as_slice();
+        let (mut start, mut unit, mut told) = (0usize, 0, 0usize);
         for _ in 0..document.units.len() {
             let Some((line, tail)) = first_line(rest) else {
                 break;
             };
             let next = start.saturating_add(rest.len().saturating_sub(tail.len()));
-            let count = bad.iter().take_while(|bytes| bytes.unit < next).count();
-            let (of_line, others) = bad.split_at(count.min(bad.len()));
+            let left = bad.get(told..).unwrap_or_default();
+            let count = left.iter().take_while(|bytes| bytes.unit < next).count();
+            let of_line = left.get(..count).unwrap_or_default();
             self.add_line(outcome, line, of_line, start)?;
             unit = if line.end.is_empty() {
                 line.text.len()
             } else {
                 0
             };
-            (rest, bad, start) = (tail, others, next);
+            (rest, start, told) = (tail, next, told.saturating_add(count));
         }
         if unit == 0 {
             self.line = self.line.saturating_add(1);
@@ -237,7 +238,7 @@ impl Subtitles {
         if self.location == Location::Times {
             self.report(outcome, unit, "no times")?;
         }
-        for bytes in bad {
+        for bytes in bad.get(told..).unwrap_or_default() {
             self.report(outcome, unit, *bytes)?;
         }
         Ok(())
