@@ -1,6 +1,8 @@
 //! Lines, which end in a line feed, a carriage return or both.
 
-ghost use Rattle.std.specs.Prelude.{◌≡◌, ◌++◌, ◌<◌, ◌≤◌, ◌↔◌, IfSome, IsSome, length};
+ghost use Rattle.std.specs.Prelude.{◌≡◌, ◌++◌, ◌<◌, ◌≤◌, ◌↔◌, IfSome, IsSome, drop, length, take};
+ghost use Rattle.std.specs.List.{All};
+ghost use Rattle.wide_subtitles.specs.Lines.{IsAtEnd, IsEnd, IsInside, IsLine};
 
 const RETURN: u16 = b'\r' as u16;
 
@@ -17,7 +19,9 @@ pub struct Line<'a> {
 
 // Returns how many units there are before the first that ends a line.
 fn text_len(units: &[u16]) -> usize
-    ensures { result ≤ length units.now }
+    ensures within { result ≤ length units.now }
+    ensures inside { All IsInside (take result units.now) }
+    ensures first { IsAtEnd (drop result units.now) }
 {
     units
         .iter()
@@ -27,7 +31,9 @@ fn text_len(units: &[u16]) -> usize
 
 // Returns how many units at the beginning end a line.
 fn end_len(units: &[u16]) -> usize
-    ensures { result ≤ length units.now }
+    requires { IsAtEnd units.now }
+    ensures within { result ≤ length units.now }
+    ensures end { IsEnd (take result units.now) (drop result units.now) }
 {
     match units {
         [RETURN, FEED, ..] => 2,
@@ -39,6 +45,7 @@ fn end_len(units: &[u16]) -> usize
 /// Splits a text into its first line and what follows it, or returns `None` if there are no units.
 pub fn first_line(units: &[u16]) -> Option<(Line<'_>, &[u16])>
     ensures some { IsSome result ↔ (0 < length units.now) }
+    ensures line { IfSome result (λ parts. IsLine parts.0.text.now parts.0.end.now parts.1.now) }
     ensures parts { IfSome result (λ parts. units.now ≡ parts.0.text.now ++ (parts.0.end.now ++ parts.1.now)) }
 {
     if units.is_empty() {
