@@ -2,10 +2,11 @@
 
 import os
 
-USAGE = "usage: lines [-n] [-i] [-b] [--cr] [--form FORM] WORD FILE..\n"
-CODECS = {"UTF-16LE": "utf-16-le", "UTF-16BE": "utf-16-be", "UTF-32LE": "utf-32-le", "UTF-32BE": "utf-32-be", "UTF-8": "utf-8"}
+from example_forms import FORMS as CODECS
+from example_forms import bom_len, is_hidden, likely_form
+
+USAGE = "usage: lines [-n] [-i] [-b] [--cr] [--form FORM | --order ORDER] WORD FILE..\n"
 TERMINAL = {"\n": "\\n", "\r": "\\r", "\t": "\\t", "\0": "\\0"}
-HIDDEN = "\u2028\u2029\u202a\u202b\u202c\u202d\u202e\u2066\u2067\u2068\u2069\ufeff"
 
 
 def units_of(text):
@@ -27,7 +28,7 @@ def shown(units):
         char = chr(unit)
         if 0xD800 <= unit < 0xE000:
             written += f"\\<{unit:04X}>"
-        elif unit < 32 or 0x7F <= unit < 0xA0 or char in HIDDEN:
+        elif is_hidden(char):
             written += TERMINAL.get(char) or f"\\u{{{unit:x}}}"
         else:
             written += char
@@ -48,35 +49,15 @@ def bom_of(data):
     return None, 0
 
 
-def likely_form(data):
-    """Returns what the beginning of a file without a BOM looks like."""
-    data = data[:1024]
-    zeros = [sum(1 for byte in data[start::4] if byte == 0) for start in range(4)]
-    few = len(data) // 8
-    if zeros[2] > few and zeros[3] > few:
-        return "UTF-32LE"
-    if zeros[0] > few and zeros[1] > few:
-        return "UTF-32BE"
-    if zeros[1] + zeros[3] > few:
-        return "UTF-16LE"
-    if zeros[0] + zeros[2] > few:
-        return "UTF-16BE"
-    try:
-        data.decode()
-        return "UTF-8"
-    except UnicodeDecodeError as fault:
-        return "UTF-8" if fault.reason == "unexpected end of data" else None
-
-
 def units_in(data, form):
-    """Returns the units, and the messages about bytes that are no text."""
+    """Returns the units, and the offsets and the messages of bytes that are no text."""
     units, bad = [], []
     if form.startswith("UTF-16"):
         order = "little" if form == "UTF-16LE" else "big"
         whole = len(data) // 2 * 2
         units = [int.from_bytes(data[at : at + 2], order) for at in range(0, whole, 2)]
         if len(data) != whole:
-            bad.append(f"unit {len(units)}: part of a unit")
+            bad.append((len(units), "part of a unit"))
     elif form.startswith("UTF-32"):
         order = "little" if form == "UTF-32LE" else "big"
         whole = len(data) // 4 * 4
@@ -85,10 +66,10 @@ def units_in(data, form):
             if number < 0x110000 and not 0xD800 <= number < 0xE000:
                 units += units_of(chr(number))
             else:
-                bad.append(f"unit {len(units)}: fault {number:02X}")
+                bad.append((len(units), f"fault {number:02X}"))
                 units.append(0xFFFD)
         if len(data) != whole:
-            bad.append(f"unit {len(units)}: part of a unit")
+            bad.append((len(units), "part of a unit"))
     elif form == "UTF-8":
         while data:
             try:
@@ -96,7 +77,7 @@ def units_in(data, form):
                 break
             except UnicodeDecodeError as fault:
                 units += units_of(data[: fault.start].decode())
-                bad.append(f"unit {len(units)}: fault {data[fault.start]:02X}")
+                bad.append((len(units), f"fault {data[fault.start]:02X}"))
                 units.append(0xFFFD)
                 data = data[fault.end :]
     else:
@@ -124,7 +105,8 @@ def lines_of(units, at_return):
     parts = []
     for line in lines:
         parts.append([])
-        for unit in line:
+        # A carriage return at the end of a line ends it too, and begins no other one.
+        for unit in line[:-1] if line[-1:] == [13] else line:
             if unit == 13:
                 parts.append([])
             else:
@@ -149,14 +131,19 @@ def offsets_of(line, word, any_case):
     return offsets
 
 
+def place_of(units, at):
+    """Returns the line and the unit of an offset."""
+    before = units[:at]
+    start = max((index + 1 for index, unit in enumerate(before) if unit == 10), default=0)
+    return f"line {before.count(10) + 1}, unit {at - start}"
+
+
 def read(options, word, data):
     """Returns the lines that are printed, the reports, and whether all was read."""
     form, skip = bom_of(data)
-    if "--form" in options:
-        asked = options["--form"].upper()
-        # The BOM of the other scheme, or of one that keeps it, is a character.
-        skip = skip if asked == form == "UTF-8" or asked in ("UTF-16", "UTF-32") and form and form.startswith(asked) else 0
-        form = asked
+    if "--form" in options or "--order" in options:
+        asked = options.get("--form", {"little": "UTF-16LE", "big": "UTF-16BE"}.get(options.get("--order"))).upper()
+        form, skip = asked, bom_len(data, asked)
         if asked in ("UTF-16", "UTF-32"):
             found, length = bom_of(data)
             if asked == "UTF-16" and data[:2] in (b"\xff\xfe", b"\xfe\xff"):
@@ -179,7 +166,7 @@ def read(options, word, data):
             first = f"{number}:" if "-n" in options else ""
             places = ",".join(map(str, offsets)) + ":" if "-b" in options else ""
             printed.append(first + places + shown(line))
-    return printed, bad, not bad
+    return printed, [f"{place_of(units, at)}: {what}" for at, what in bad], not bad
 
 
 def run(options, word, files):
@@ -224,6 +211,17 @@ FILES = [
     ("part of a unit", {}, "a", b"\xff\xfea\0\n\0b"),
     ("faults of UTF-8", {"--form": "UTF-8"}, "a", b"a\xff\na\xf0\x9f\x98\nb\xed\xa0\x80a\xf0\x9f"),
     ("faults of UTF-32", {"--form": "UTF-32LE"}, "a", b"a\0\0\0\0\xd8\0\0\x00\x00\x11\x00a\0\0\0\0\0"),
+    ("an order of bytes", {"--order": "big"}, "fish", TEXT.encode("utf-16-be")),
+    ("and the other one", {"--order": "little"}, "fish", b"\xff\xfe" + TEXT.encode("utf-16-le")),
+    ("a BOM of the form that is asked for", {"--form": "UTF-16LE", "-b": True}, "The", TEXT.encode("utf-16")),
+    ("and of another one", {"--form": "UTF-16LE", "-b": True}, "a", b"\xfe\xff" + "a".encode("utf-16-le")),
+    ("ideographs without a BOM", {}, "字", "中文字幕，\n".encode("utf-16-le") * 40),
+    ("with zero bytes of spaces", {}, "文", "中　文　\n".encode("utf-16-le") * 40),
+    ("and in the other order", {}, "文", "中　文　\n".encode("utf-16-be") * 40),
+    ("UTF-8 with a fault far behind", {}, "a", b"a\n" * 600 + b"caf\xe9\n"),
+    ("damaged UTF-8", {}, "a", "é深🐟é\n".encode() * 40 + b"caf\xe9\n"),
+    ("a carriage return at the end", {"-n": True, "--cr": True}, "", "a\rb\r\n\nc\r".encode("utf-16")),
+    ("characters that change the direction", {}, "a", "a\u200e\u200f\u061c\n".encode("utf-16")),
     ("nothing reaches a terminal that would change it", {}, "a", "a\x1b[2J\x07\x9b\u202e\u2028\ufeff\0\t\rb\n".encode("utf-16")),
 ]
 
@@ -249,7 +247,9 @@ def question(random, folder):
         with open(os.path.join(folder, f"f{number}"), "wb") as file:
             file.write(data)
     options = {name: True for name in ("-n", "-i", "-b", "--cr") if random.randrange(2)}
-    if random.randrange(3) == 0:
+    if random.randrange(8) == 0:
+        options["--order"] = random.choice(["little", "big"])
+    elif random.randrange(3) == 0:
         options["--form"] = random.choice([*CODECS, "UTF-16", "UTF-32", "CP1252"])
     word = random.choice(["a", "A", "b", "é", "😀", "ab", "aa", ""])
     return [*words_of(options), word, *(name for name, _ in files)], *run(options, word, files)
@@ -261,6 +261,13 @@ def cases():
     yield "no such option", ["-x", "a", "{}"], b"", b"", b"lines: unknown option '-x'\n" + USAGE.encode(), 2
     yield "no such form", ["--form", "UTF-7", "a", "{}"], b"", b"", b"lines: '--form' has no value 'UTF-7'\n" + USAGE.encode(), 2
     yield "no form", ["--form"], b"", b"", b"lines: '--form' needs an argument\n" + USAGE.encode(), 2
+    yield "no such order", ["--order", "middle", "a", "{}"], b"", b"", b"lines: '--order' has no value 'middle'\n" + USAGE.encode(), 2
+    yield "a directory", ["a", "."], b"", b"", b"lines: .: Is a directory (os error 21)\n", 2
+    yield "a name that a terminal would not show", ["a", "\x1b[31m"], b"", b"", b"lines: \\u{1b}[31m: No such file or directory (os error 2)\n", 2
+    yield "an option that a terminal would not show", ["--\x1b", "{}"], b"", b"", b"lines: unknown option '--\\u{1b}'\n" + USAGE.encode(), 2
+    # Tests put the name of the file, case, for the braces of arguments.
+    two = [("case", TEXT.encode("utf-16"))] * 2
+    yield "two files", ["-n", "lantern", "{}", "{}"], TEXT.encode("utf-16"), *run({"-n": True}, "lantern", two)
     yield "the version", ["--version"], b"", b"lines 0.2.0\n", b"", 0
     yield "standard input", ["fish", "-"], TEXT.encode("utf-16"), *run({}, "fish", [("-", TEXT.encode("utf-16"))])
     yield "a word that begins as an option", ["--", "-n", "{}"], "a-n".encode("utf-16"), b"a-n\n", b"", 0

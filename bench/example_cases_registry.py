@@ -7,6 +7,8 @@ import bisect
 import os
 import re
 
+from example_forms import bom_len, is_hidden, likely_form
+
 USAGE = "usage: registry [--form FORM] [--json] FILE..\n"
 HEADERS = ("REGEDIT4", "Windows Registry Editor Version 5.00")
 ROOTS = (
@@ -46,11 +48,6 @@ def items_of(units):
             at += 1
 
 
-def is_hidden(char):
-    number = ord(char)
-    return number < 32 or 0x7F <= number < 0xA0 or 0x2028 <= number <= 0x202E or 0x2066 <= number <= 0x2069 or number == 0xFEFF
-
-
 def shown(units, in_quotes=False):
     written = ""
     for _, item in items_of(units):
@@ -82,26 +79,6 @@ def json_of(units):
 # ---- the form of a file
 
 
-def likely_form(data):
-    """Returns what the beginning of a file without a BOM looks like."""
-    data = data[:1024]
-    zeros = [sum(1 for byte in data[start::4] if byte == 0) for start in range(4)]
-    few = len(data) // 8
-    for form, is_likely in (
-        ("UTF-32LE", zeros[2] > few and zeros[3] > few),
-        ("UTF-32BE", zeros[0] > few and zeros[1] > few),
-        ("UTF-16LE", zeros[1] + zeros[3] > few),
-        ("UTF-16BE", zeros[0] + zeros[2] > few),
-    ):
-        if is_likely:
-            return form
-    try:
-        data.decode()
-        return "UTF-8"
-    except UnicodeDecodeError as fault:
-        return "UTF-8" if fault.reason == "unexpected end of data" else None
-
-
 def form_by_header(data):
     """Returns the form that a header without a BOM tells."""
     start = re.match(rb"[ \t]*", data).end()
@@ -119,14 +96,14 @@ def form_by_header(data):
 def form_of(data, asked):
     """Returns the form of a file and the length of its BOM, or None and what is said if the form is not known."""
     if asked:
-        return asked.upper(), 3 if asked.upper() == "UTF-8" and data.startswith(b"\xef\xbb\xbf") else 0
+        return asked.upper(), bom_len(data, asked.upper())
     for bom, form, length in ((b"\xef\xbb\xbf", "UTF-8", 3), (b"\xff\xfe", "UTF-16LE", 2), (b"\xfe\xff", "UTF-16BE", 2)):
         if data.startswith(bom):
             return form, length
     form = form_by_header(data)
     likely = likely_form(data)
-    if form or not data or likely == "UTF-16LE":
-        return form or "UTF-16LE", 0
+    if form or not data or likely in ("UTF-16LE", "UTF-8"):
+        return form or likely or "UTF-16LE", 0
     said = f"it looks like {likely}, which --form {likely} reads" if likely else "it looks like no form of Unicode; --form FORM says what it is"
     return None, f"no BOM, and {said}"
 
@@ -268,7 +245,7 @@ class Export:
         root = path.split("\\")[0]
         if re.sub("[a-z]", lambda letter: letter[0].upper(), root) not in ROOTS:
             self.note(line.body_start + 1 + is_deleted, f"no root of a registry, {shown(root)}")
-        self.key, self.has_key = path, not is_deleted
+        self.key, self.has_key = None if is_deleted else path, not is_deleted
         self.object(("key", json_of(path)), *([("delete", "true")] if is_deleted else []))
 
     def unescaped(self, start, end):
@@ -321,7 +298,7 @@ class Export:
             return self.value(name, ("type", 1), ("text", json_of(units.removesuffix("\0"))))
         if whole:
             last = Line(self.text, whole.end())
-            if not last.body:
+            if last.body[:1] in ("", ";"):
                 self.last = last
                 units = self.unescaped(start, whole.end() - 1)
                 return self.value(name, ("type", 1), ("text", json_of(units.removesuffix("\0"))))
@@ -410,25 +387,37 @@ def reported(text, bad, reports):
     return "".join(written)
 
 
+def is_utf8(data):
+    try:
+        data.decode()
+        return True
+    except UnicodeDecodeError:
+        return False
+
+
 def read(options, data):
-    """Returns the output and the reports."""
+    """Returns the output, the notes and the reports."""
     form, skip = form_of(data, options.get("--form"))
     if form is None:
-        return "", f"{skip}\n"
+        return "", "", f"{skip}\n"
     text, bad = text_in(data[skip:], form)
     export = Export(text, form, "--json" in options)
+    note = ""
+    if form == "CP1252" and "--form" not in options and not data.isascii() and is_utf8(data):
+        note = "note: it looks like UTF-8, which --form UTF-8 reads\n"
     is_big = "line 1, unit 0: the high byte of each unit is first\n" if form == "UTF-16BE" else ""
-    return export.output, is_big + reported(text, bad, export.reports)
+    return export.output, note, is_big + reported(text, bad, export.reports)
 
 
 def run(options, files):
     """Returns standard output, standard error and status for files by their names."""
-    output, errors = "", ""
+    output, errors, is_well = "", "", True
     for name, data in files:
-        written, said = read(options, data)
+        written, notes, said = read(options, data)
         output += written
-        errors += "".join((f"{name}: " if len(files) > 1 else "") + f"{line}\n" for line in said.splitlines())
-    return output.encode(), errors.encode(), 1 if errors else 0
+        errors += "".join((f"{name}: " if len(files) > 1 else "") + f"{line}\n" for line in (notes + said).splitlines())
+        is_well &= not said
+    return output.encode(), errors.encode(), 0 if is_well else 1
 
 
 # ---- files
@@ -484,6 +473,12 @@ FILES = [
     ("half of a unit in a line", {}, b'\xff\xfeR\x00E\x00G\x00E\x00D\x00I\x00T\x004\x00\r\x00\n\x00[\x00K\x00]\x00\r'),
     ("texts of REGEDIT4 in its code page", {}, b'REGEDIT4\r\n[HKCU\\caf\xe9]\r\n"p"=hex(2):25,50,41,54,48,25,00\r\n"m"=hex(7):e9,00,62,00,00\r\n"o"=hex(2):41,42,43\r\n@="\x80"\r\n'),
     ("in another code page", {'--form': 'cp1251'}, b'REGEDIT4\r\n[HKCU]\r\n"\xef"=hex(1):ef,00\r\n'),
+    ("REGEDIT4 that looks like UTF-8", {}, 'REGEDIT4\r\n[HKCU]\r\n@="café"\r\n'.encode()),
+    ("another header in bytes, and none", {}, b"REGEDIT\r\nHKEY_CLASSES_ROOT\\foo = bar\r\n"),
+    ("a comment before the header", {}, b"; c\r\nWindows Registry Editor Version 5.00\r\n[HKCU]\r\n"),
+    ("a comment behind a string over lines", {}, wide('REGEDIT4\r\n[HKCU]\r\n@="a\r\nb" ; c\r\n"x"="c\r\nd" e\r\n')),
+    ("a value under a deleted key as an object", {"--json": True}, wide('REGEDIT4\r\n[-HKCU]\r\n@="a"\r\n[HKCU]\r\n@="b"\r\n')),
+    ("a BOM of the form that is asked for", {"--form": "UTF-16LE"}, wide('REGEDIT4\r\n[HKCU]\r\n')),
     ("and in UTF-8", {'--form': 'UTF-8'}, b'REGEDIT4\r\n[HKCU]\r\n@=hex(1):d0,bf\r\n@="\xd0\xbf"\r\n'),
     ("little endian without a BOM, and half of a unit", {}, b'W\x00i\x00n\x00d\x00o\x00w\x00s\x00 \x00R\x00e\x00g\x00i\x00s\x00t\x00r\x00y\x00 \x00E\x00d\x00i\x00t\x00o\x00r\x00 \x00V\x00e\x00r\x00s\x00i\x00o\x00n\x00 \x005\x00.\x000\x000\x00\r\x00\n\x00[\x00H\x00K\x00C\x00U\x00\\\x00\xf1m]\x00\r\x00\n\x00'),
     ("big endian without a BOM", {}, b'\x00W\x00i\x00n\x00d\x00o\x00w\x00s\x00 \x00R\x00e\x00g\x00i\x00s\x00t\x00r\x00y\x00 \x00E\x00d\x00i\x00t\x00o\x00r\x00 \x00V\x00e\x00r\x00s\x00i\x00o\x00n\x00 \x005\x00.\x000\x000\x00\r\x00\n\x00[\x00H\x00K\x00C\x00U\x00\\m\xf1\x00]\x00\r\x00\n'),
@@ -577,5 +572,7 @@ def cases():
     yield "two files", ["{}", "{}"], b"REGEDIT4\r\n", b"REGEDIT4\nREGEDIT4\n", b"", 0
     yield "the version", ["--version"], b"", b"registry 0.2.0\n", b"", 0
     yield "no such form", ["--form", "EBCDIC", "{}"], b"", b"", f"registry: '--form' has no value 'EBCDIC'\n{USAGE}".encode(), 2
+    yield "no such file", ["none.reg"], b"", b"", b"registry: none.reg: No such file or directory (os error 2)\n", 1
+    yield "a directory", ["."], b"", b"", b"registry: .: Is a directory (os error 21)\n", 1
     yield "no such option", ["--jsn", "{}"], b"", b"", f"registry: unknown option '--jsn'\n{USAGE}".encode(), 2
     yield "standard input", ["-"], b"REGEDIT4\r\n", b"REGEDIT4\n", b"", 0

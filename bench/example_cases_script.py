@@ -3,6 +3,8 @@ characters."""
 
 import os
 
+from example_forms import is_hidden, likely_form
+
 NAMES = ["string", "length", "indexOf", "isWellFormed", "toWellFormed", "codePointAt", "slice", "insert", "remove", "replace"]
 USAGE = b"script: wrong arguments\nusage: script FILE..\n"
 JSON_ESCAPES = {'"': '"', "\\": "\\", "/": "/", "b": "\b", "f": "\f", "n": "\n", "r": "\r", "t": "\t"}
@@ -15,8 +17,7 @@ HIDDEN = "\x7f\u00ad\u0301\u200b"
 
 def safe(text):
     """Returns a text as it is written where a terminal may show it."""
-    hidden = lambda c: ord(c) < 32 or 0x7F <= ord(c) < 0xA0 or c in "\u2028\u2029\u202a\u202b\u202c\u202d\u202e\u2066\u2067\u2068\u2069\ufeff"
-    return "".join(TERMINAL.get(c) or (f"\\u{{{ord(c):x}}}" if hidden(c) else c) for c in text)
+    return "".join(TERMINAL.get(c) or (f"\\u{{{ord(c):x}}}" if is_hidden(c) else c) for c in text)
 
 
 class Damage(Exception):
@@ -44,8 +45,8 @@ def items_of(units):
 
 
 def escaped(char):
-    is_hidden = char in HIDDEN or ord(char) < 32 or 0x7F <= ord(char) < 0xA0 or char == "\u202e"
-    return ESCAPES.get(char) or (f"\\u{{{ord(char):x}}}" if is_hidden else char)
+    is_escaped = char in HIDDEN or ord(char) < 32 or 0x7F <= ord(char) < 0xA0 or char == "\u202e"
+    return ESCAPES.get(char) or (f"\\u{{{ord(char):x}}}" if is_escaped else char)
 
 
 def shown(units):
@@ -201,16 +202,29 @@ def answer(units, text):
     return units, shown(units_of(repaired))
 
 
+def form_of(data):
+    """Returns what a file is by its BOM, or looks like."""
+    for bom, form in ((b"\xef\xbb\xbf", "UTF-8"), (b"\xff\xfe\0\0", "UTF-32"), (b"\0\0\xfe\xff", "UTF-32"), (b"\xff\xfe", "UTF-16"), (b"\xfe\xff", "UTF-16")):
+        if data.startswith(bom):
+            return form
+    return likely_form(data) if data else None
+
+
 def read(data):
     """Returns standard output, standard error and status."""
     units, output, reported = [], "", ""
+    form = form_of(data)
+    if form not in ("UTF-8", None):
+        return b"", f"it looks like {form}, and calls are read in UTF-8\n".encode(), 1
     data = data[3:] if data.startswith(b"\xef\xbb\xbf") else data
     for number, line in enumerate(data.split(b"\n"), 1):
         line = line[:-1] if line.endswith(b"\r") else line
         try:
             text = line.decode()
         except UnicodeDecodeError as fault:
-            offset = len(units_of(line[: fault.start].decode()))
+            valid = line[: fault.start].decode()
+            offset = len(units_of(valid))
+            output += f"{safe(valid)}\ufffd: no UTF-8 at unit {offset}\n"
             reported += f"line {number}, unit {offset}: no UTF-8\n"
             continue
         if not text:
@@ -254,6 +268,10 @@ FILES = [
     ("no calls of such names", b"charAt 0\nisWellFormed x\ntoWellFormed x\ncodePointAt 0 x\nslice 0 1 x\nremove 0 x\n x\nIsWellFormed\n"),
     ("spaces at ends", b"isWellFormed \nstring \nstring  a\nslice 0 9 \ncodePointAt 1 \nremove 1 \ninsert 0 \n"),
     ("ends of lines", b"string a\r\nslice 0 9\r\r\n\r\n\nisWellFormed\r"),
+    ("UTF-16 without a BOM", "string abc\nlength\n".encode("utf-16-le")),
+    ("big endian behind a BOM", b"\xfe\xff" + "string abc\n".encode("utf-16-be")),
+    ("UTF-32 behind a BOM", "string abc\n".encode("utf-32")),
+    ("UTF-32 without a BOM", "string abc\n".encode("utf-32-be")),
     ("bytes that are no UTF-8", b"string \xc3\xa9\xff\n\xed\xa0\x80\nstring \xf0\x9f\x98\nisWellFormed\n"),
     ("units before a fault of a line", "string é😀".encode() + b"\xc3\n" + "é😀 1\nstring é😀\\u\n".encode()),
 ]
@@ -303,3 +321,8 @@ def cases():
     yield "wrong words", [], b"", b"", USAGE, 2
     for name, data in FILES:
         yield name, ["{}"], data, *read(data)
+    yield "no such file", ["none.txt"], b"", b"", b"script: none.txt: No such file or directory (os error 2)\n", 1
+    yield "a directory", ["."], b"", b"", b"script: .: Is a directory (os error 21)\n", 1
+    yield "standard input", ["-"], b"string a\n", *read(b"string a\n")
+    yield "two files", ["{}", "{}"], b"string a\n", read(b"string a\n")[0] * 2, b"", 0
+    yield "the version", ["--version"], b"", b"script 0.2.0\n", b"", 0

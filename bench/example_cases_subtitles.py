@@ -4,14 +4,18 @@ Python's codecs."""
 import os
 import re
 
+from example_forms import FORMS as CODECS
+from example_forms import bom_len, is_hidden, likely_form
+
 USAGE = b"subtitles: wrong arguments\nusage: subtitles [--form FORM] [--to FORM] [--drop] FILE MILLISECONDS [drop]\n"
 GREATEST = 2**32 - 1
 TIME = r"(-?)([0-9]+):([0-9]{1,2}):([0-9]{1,2})([,.])([0-9]{1,3})(?![0-9])"
-BLANK = "\t\x0b\x0c \xa0\u3000\ufeff"
-CODECS = {"UTF-16LE": "utf-16-le", "UTF-16BE": "utf-16-be", "UTF-32LE": "utf-32-le", "UTF-32BE": "utf-32-be", "UTF-8": "utf-8"}
+BLANK = "\t\x0b\x0c "
+# What may be beside a number, and between a dash and the head of an arrow.
+PADDING = BLANK + "\xa0\u200e\u200f\u202a\u202b\u202c\u202d\u202e\u3000\ufeff"
+CLOCK = "[0-9]:+[0-9]"
 BOMS = [(b"\xef\xbb\xbf", "UTF-8"), (b"\xff\xfe\0\0", "UTF-32LE"), (b"\0\0\xfe\xff", "UTF-32BE"), (b"\xff\xfe", "UTF-16LE"), (b"\xfe\xff", "UTF-16BE")]
 TERMINAL = {"\n": "\\n", "\r": "\\r", "\t": "\\t", "\0": "\\0"}
-HIDDEN = "\u2028\u2029\u202a\u202b\u202c\u202d\u202e\u2066\u2067\u2068\u2069\ufeff"
 
 
 def units_of(text):
@@ -28,7 +32,7 @@ def shown_char(char):
         return f"\\<{ord(char):04X}>"
     if char in "\"\\":
         return "\\" + char
-    if ord(char) < 32 or 0x7F <= ord(char) < 0xA0 or char in HIDDEN:
+    if is_hidden(char):
         return TERMINAL.get(char) or f"\\u{{{ord(char):x}}}"
     return char
 
@@ -71,6 +75,14 @@ def times_in(line):
     return begin, end, first.span(), second.span()
 
 
+def seems_times(line):
+    """Returns whether a line has digits around a colon on both sides of an arrow of some kind."""
+    before, head, behind = line.partition(">")
+    dash = before.rstrip(PADDING)[-1:]
+    is_arrow = head and dash and (dash == "-" or "\u2010" <= dash <= "\u2015" or dash == "\u2212")
+    return bool(is_arrow and re.search(CLOCK, before) and re.search(CLOCK, behind))
+
+
 def written(time):
     seconds, thousandths = divmod(time, 1000)
     minutes, seconds = divmod(seconds, 60)
@@ -106,9 +118,9 @@ class Reader:
 
     def is_right(self, line):
         """Reports what a line is that should be something else, and returns its times if they are to be moved."""
-        expects, content = self.expects, line.strip(BLANK)
+        expects, content = self.expects, line.strip(PADDING)
         times = times_in(line)
-        if not content:
+        if not line.strip(BLANK):
             self.expects = "start"
             if expects == "times":
                 self.report(0, "no times")
@@ -122,7 +134,7 @@ class Reader:
                 self.note("a subtitle without an empty line before it")
             return times
         self.expects = "text"
-        if not is_number and times > 0 and "-->" in line:
+        if not is_number and (times > 0 and "-->" in line or seems_times(line)):
             self.report(times, "no times")
         elif expects == "start" and is_number:
             self.expects = "times"
@@ -177,26 +189,6 @@ def bom_of(data):
     return None, 0
 
 
-def likely_form(data):
-    """Returns what the beginning of a file without a BOM looks like."""
-    data = data[:1024]
-    zeros = [sum(1 for byte in data[start::4] if byte == 0) for start in range(4)]
-    few = len(data) // 8
-    for form, is_likely in (
-        ("UTF-32LE", zeros[2] > few and zeros[3] > few),
-        ("UTF-32BE", zeros[0] > few and zeros[1] > few),
-        ("UTF-16LE", zeros[1] + zeros[3] > few),
-        ("UTF-16BE", zeros[0] + zeros[2] > few),
-    ):
-        if is_likely:
-            return form
-    try:
-        data.decode()
-        return "UTF-8"
-    except UnicodeDecodeError as fault:
-        return "UTF-8" if fault.reason == "unexpected end of data" else None
-
-
 def form_of(data, asked):
     """Returns the form of a file and the length of its BOM, or what is said if it is not known."""
     form, skip = bom_of(data)
@@ -207,7 +199,7 @@ def form_of(data, asked):
                 order = "LE" if data[0] == 0xFF else "BE"
                 return asked + order, len(asked) // 3 if asked == "UTF-16" else 4
             return asked + "LE", 0
-        return asked, skip if asked == form == "UTF-8" else 0
+        return asked, bom_len(data, asked)
     if not form:
         for pattern, found in ((rb"[0-9]\0\0\0", "UTF-32LE"), (rb"\0\0\0[0-9]", "UTF-32BE"), (rb"[0-9]\0", "UTF-16LE"), (rb"\0[0-9]", "UTF-16BE")):
             if re.match(pattern, data):
@@ -260,7 +252,7 @@ def text_of(data, form):
 
 def output_of(text, data, form, asked, to):
     """Returns the bytes that are written."""
-    has_bom = form in CODECS and any(data.startswith(bom) for bom, other in BOMS if other == form or not (form == "UTF-8" or other == "UTF-8"))
+    has_bom = bom_len(data, form) > 0
     to = (to or (form if form in CODECS else "UTF-8")).upper()
     to = {"UTF-16": "UTF-16LE", "UTF-32": "UTF-32LE", "WTF-8": "UTF-8"}.get(to, to)
     return (("\ufeff" if has_bom else "") + text).encode(CODECS[to])
@@ -331,6 +323,20 @@ CASES = [
     ("UTF-32 without a mark", ["1000"], "1\n00:00:01,000 --> 00:00:02,000\n😀\n".encode("utf-32-le")),
     ("from UTF-16 to UTF-8", ["--to", "utf-8", "1000"], ONE),
     ("from UTF-8 to UTF-16", ["--to", "UTF-16BE", "1000"], ONE.encode()),
+    ("a mark of the form that is asked for", ["--form", "UTF-16LE", "1000"], ONE),
+    ("and to another one", ["--form", "UTF-16LE", "--to", "UTF-8", "1000"], ONE),
+    ("and of another form", ["--form", "UTF-16BE", "1000"], b"\xff\xfe" + "1\n00:00:01,000 --> 00:00:02,000\na".encode("utf-16-be")),
+    ("times that are damaged behind no empty line", ["1000"], "".join(f"1\n00:00:01,000 --> 00:00:02,000\na\n2\n{line}\nb\n\n" for line in [
+        "00:00:61,000 --> 00:01:04,000", "00:60:01,000 --> 00:01:04,000", "00:00:03,0000 --> 00:00:04,000", "00:00:03:000 --> 00:00:04:000",
+        "00:00:03 --> 00:00:04", "00:00:03;000 --> 00:00:04,000", "00: 00:03,000 --> 00:00:04,000", "O0:00:03,000 --> 00:00:04,000",
+        "+00:00:03,000 --> 00:00:04,000", "[00:00:03,000 --> 00:00:04,000]", "\xa000:00:03,000 --> 00:00:04,000", "\ufeff00:00:03,000 --> 00:00:04,000",
+        "\u202a00:00:03,000 --> 00:00:04,000", "00:00:03,000 -> 00:00:04,000", "00:00:03,000 -- > 00:00:04,000", "00:00:03,000 \u2013> 00:00:04,000",
+        "2 00:00:03,000 --> 00:00:04,000", "00:03,000 --> 00:04,000",
+    ])),
+    ("dialogue with arrows and clocks", ["1000"], "1\n00:00:01,000 --> 00:00:02,000\nthe 10:30 -> home\nhome --> 10:30\na:b -> 1:c\n10:30 > 9:30\n"),
+    ("lines of wide blanks are text", ["1000"], "1\n00:00:01,000 --> 00:00:02,000\na\n\xa0\n\u3000\nb\n\n2\xa0\n00:00:03,000 --> 00:00:04,000\n"),
+    ("a fault of UTF-8 far behind", ["1000"], b"1\n00:00:01,000 --> 00:00:02,000\na\n" + b"x" * 1100 + b"\ncaf\xe9\n"),
+    ("damaged UTF-8", ["1000"], b"1\n00:00:01,000 --> 00:00:02,000\n" + "é深🐟é".encode() + b"\ncaf\xe9\n"),
     ("a code page", ["--form", "cp1252", "1000"], "1\n00:00:01,000 --> 00:00:02,000\n".encode() + b"caf\xe9\n"),
     ("what is not known", ["1000"], b"caf\xe9\n"),
     ("big endian that does not begin with a digit", ["1000"], "\n1\n00:00:01,000 --> 00:00:02,000\na".encode("utf-16-be")),
@@ -432,3 +438,6 @@ def cases():
         arguments = [*options, "{}", *words]
         yield name, arguments, data, *read(arguments, data)
     yield "no words", [], b"", *read([], b"")
+    yield "no such file", ["none.srt", "1"], b"", b"", b"subtitles: none.srt: No such file or directory (os error 2)\n", 1
+    yield "a directory", [".", "1"], b"", b"", b"subtitles: .: Is a directory (os error 21)\n", 1
+    yield "standard input", ["-", "1000"], ONE.encode(), *read(["-", "1000"], ONE.encode())

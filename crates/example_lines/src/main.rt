@@ -7,12 +7,14 @@
 use std::alloc::{AllocError, Global};
 use std::fmt::Write;
 use std::process::ExitCode;
-use wide_files::{Document, Form, OptionWord, Outcome, Program, Shown, form_named, form_of, run};
+use wide_files::{
+    Document, Form, OptionWord, Outcome, Place, Program, Shown, ShownText, form_named, form_of, run,
+};
 use widestring::convert::Scheme;
 use widestring::error::OutOfMemory;
 use widestring::{U16Str, U16String};
 
-static OPTIONS: [OptionWord; 5] = [
+static OPTIONS: [OptionWord; 6] = [
     OptionWord {
         name: "-n",
         has_value: false,
@@ -33,6 +35,10 @@ static OPTIONS: [OptionWord; 5] = [
         name: "--form",
         has_value: true,
     },
+    OptionWord {
+        name: "--order",
+        has_value: true,
+    },
 ];
 
 const HELP: &str = "\
@@ -42,13 +48,27 @@ Prints the lines of the files that contain the word.
   -i           ASCII letters in either case are the same
   -b           prints where the word is in each line, in units, from 0
   --cr         a carriage return alone ends a line too
-  --form FORM  the form of the files: UTF-8, UTF-16LE, UTF-32BE, CP1252 ..;
-               without it a BOM decides, and a file without one is UTF-16LE
+  --form FORM  the form of the files: UTF-8, UTF-16, UTF-16LE, UTF-16BE, UTF-32,
+               UTF-32LE, UTF-32BE, CP874, CP1250 to CP1258; without it a BOM
+               decides, and a file without one is UTF-16LE
+  --order ORDER  little or big: UTF-16 in this order of bytes
   --help, --version
 
 For the file - it reads standard input. The exit status is 0 if a line was found,
 1 if none was, and 2 after an error.
 ";
+
+// A line feed, which ends a line.
+const FEED: u16 = b'\n' as u16;
+
+// Returns the form of UTF-16 with this order of bytes.
+fn form_in_order(order: &str) -> Option<Form> {
+    match order {
+        "little" => Some(Form::Unicode(Scheme::Utf16Le)),
+        "big" => Some(Form::Unicode(Scheme::Utf16Be)),
+        _ => None,
+    }
+}
 
 // What is searched for, and how.
 #[derive(Drop)]
@@ -106,7 +126,7 @@ impl Lines {
         }
         self.found = true;
         if !outcome.file.is_empty() {
-            write!(outcome.output, "{}:", outcome.file)?;
+            write!(outcome.output, "{}:", ShownText(outcome.file))?;
         }
         if self.numbers {
             write!(outcome.output, "{number}:")?;
@@ -117,12 +137,36 @@ impl Lines {
         writeln!(outcome.output, "{}", Shown(line))
     }
 
+    // Reports the bytes that are no text, with their lines.
+    fn report_bad(
+        &mut self,
+        outcome: &mut Outcome<'_>,
+        document: &Document,
+    ) -> Result<(), AllocError> {
+        let mut line: usize = 1;
+        let (mut start, mut from) = (0usize, 0usize);
+        for bad in &document.bad {
+            let between = document.units.get(from..bad.unit).unwrap_or_default();
+            for (at, unit) in between.iter().enumerate() {
+                if *unit == FEED {
+                    line = line.saturating_add(1);
+                    start = from.saturating_add(at).saturating_add(1);
+                }
+            }
+            from = bad.unit;
+            self.unread = true;
+            let unit = bad.unit.saturating_sub(start);
+            outcome.report_at(Place { line, unit }, *bad)?;
+        }
+        Ok(())
+    }
+
     // Prints the lines of a text that have the word.
     fn read_text(&mut self, outcome: &mut Outcome<'_>, text: U16Str<'_>) -> Result<(), AllocError> {
         let mut number: usize = 0;
         for line in text.lines_lossy() {
-            if self.ends_at_return {
-                for part in line.split_char('\r') {
+            if self.ends_at_return && !line.is_empty() {
+                for part in line.split_terminator_char('\r') {
                     number = number.saturating_add(1);
                     self.read_line(outcome, number, part)?;
                 }
@@ -141,7 +185,7 @@ impl Program for Lines {
     }
 
     fn usage() -> &'static str {
-        "lines [-n] [-i] [-b] [--cr] [--form FORM] WORD FILE.."
+        "lines [-n] [-i] [-b] [--cr] [--form FORM | --order ORDER] WORD FILE.."
     }
 
     fn help() -> &'static str {
@@ -158,12 +202,10 @@ impl Program for Lines {
             1 => self.any_case = true,
             2 => self.offsets = true,
             3 => self.ends_at_return = true,
-            _ => {
-                self.form = form_named(value);
-                return Ok(self.form.is_some());
-            }
+            4 => self.form = form_named(value),
+            _ => self.form = form_in_order(value),
         }
-        Ok(true)
+        Ok(option < 4 || self.form.is_some())
     }
 
     fn take_words<'a>(&mut self, words: &'a [String]) -> Result<Option<&'a [String]>, OutOfMemory> {
@@ -188,10 +230,7 @@ impl Program for Lines {
             }
         };
         let document = Document::read(alloc, bytes.get(bom..).unwrap_or_default(), form)?;
-        for bad in &document.bad {
-            self.unread = true;
-            outcome.report(format_args!("unit {}: {bad}", bad.unit))?;
-        }
+        self.report_bad(outcome, &document)?;
         Ok(self.read_text(outcome, U16Str::from_slice(&document.units))?)
     }
 

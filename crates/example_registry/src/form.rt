@@ -41,7 +41,8 @@ fn form_by_header(bytes: &[u8]) -> Option<Form> {
 }
 
 // Returns the form of an export, and the length of its BOM in bytes if that is to be passed. The form that is asked for is
-// taken, or else that of the BOM, or of the header, or else UTF-16LE if the file looks like it.
+// taken, or else that of the BOM, or of the header, or else UTF-16LE or UTF-8 if the file looks like it: then its lines are
+// read, and that it has no header is a damage.
 pub fn form_of_export(bytes: &[u8], asked: Option<Form>) -> Result<(Form, usize), NoForm> {
     if asked.is_none()
         && scheme_by_bom(bytes).is_none()
@@ -49,7 +50,18 @@ pub fn form_of_export(bytes: &[u8], asked: Option<Form>) -> Result<(Form, usize)
     {
         return Ok((form, 0));
     }
-    form_of(bytes, asked, Scheme::Utf16Le)
+    match form_of(bytes, asked, Scheme::Utf16Le) {
+        Err(NoForm(Some(Scheme::Utf8))) => Ok((Form::Unicode(Scheme::Utf8), 0)),
+        found => found,
+    }
+}
+
+// Returns whether a file that is read in a code page looks like UTF-8 beyond ASCII.
+pub fn is_other_than_utf8(bytes: &[u8], form: Form) -> bool {
+    match form {
+        Form::Windows(_) => bytes.is_ascii() || str::from_utf8(bytes).is_err(),
+        Form::Unicode(_) => true,
+    }
 }
 
 // Returns whether the high byte of each unit is first.

@@ -3,17 +3,13 @@
 use std::alloc::{AllocError, Global};
 use std::fmt;
 use std::fmt::Write;
+use wide_files::is_hidden;
 use wide_registry::{Key, decoded};
 use widestring::U16Str;
 use widestring::error::OutOfMemory;
 
-// Returns whether JSON or a terminal wants a character escaped: controls, separators of lines, and characters that change
-// the direction of text.
-fn is_escaped(c: char) -> bool {
-    c.is_control() || matches!(c, '\u{2028}'..='\u{202e}' | '\u{2066}'..='\u{2069}' | '\u{feff}')
-}
-
-// A text as a string of JSON. An unpaired surrogate is an escape, so that nothing is lost.
+// A text as a string of JSON. An unpaired surrogate is an escape, so that nothing is lost, and so is what would change a
+// terminal.
 #[derive(Clone, Copy)]
 pub struct JsonText<'a>(pub &'a [u16]);
 
@@ -27,7 +23,7 @@ impl fmt::Display for JsonText<'_> {
                 Ok('\n') => f.write_str("\\n")?,
                 Ok('\r') => f.write_str("\\r")?,
                 Ok('\t') => f.write_str("\\t")?,
-                Ok(c) if is_escaped(c) => write!(f, "\\u{:04x}", u32::from(c))?,
+                Ok(c) if is_hidden(c) => write!(f, "\\u{:04x}", u32::from(c))?,
                 Ok(c) => f.write_char(c)?,
                 Err(fault) => write!(f, "\\u{:04x}", fault.unpaired_surrogate())?,
             }

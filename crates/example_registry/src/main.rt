@@ -17,7 +17,7 @@ mod reader;
 mod reports;
 mod values;
 
-use crate::form::{form_of_export, is_big_endian};
+use crate::form::{form_of_export, is_big_endian, is_other_than_utf8};
 use crate::reader::Reader;
 use crate::reports::Reports;
 use crate::values::Bytes;
@@ -42,9 +42,10 @@ const HELP: &str = "\
 Prints the keys and values of registry exports, .reg files, and reports what is
 damaged, with its line, from 1, and its unit in that line, from 0.
 
-  --form FORM  the form of the files: CP1251, UTF-8, UTF-16LE ..; without it a
-               BOM decides, or else the header: a file of REGEDIT4 is CP1252,
-               one of version 5 is UTF-8 or UTF-16
+  --form FORM  the form of the files: UTF-8, UTF-16, UTF-16LE, UTF-16BE, UTF-32,
+               UTF-32LE, UTF-32BE, CP874, CP1250 to CP1258; without it a BOM
+               decides, or else the header: a file of REGEDIT4 is CP1252, one of
+               version 5 is UTF-8 or UTF-16
   --json       prints an object in a line for each key and each value that is
                not damaged; texts are without the NUL at their end
   --help, --version
@@ -109,6 +110,9 @@ impl Program for Registry {
             Ok(found) => found,
             Err(error) => return Ok(outcome.report(error)?),
         };
+        if self.form.is_none() && !is_other_than_utf8(bytes, form) {
+            outcome.note("it looks like UTF-8, which --form UTF-8 reads")?;
+        }
         let document = Document::read(alloc, bytes.get(bom..).unwrap_or_default(), form)?;
         if is_big_endian(bytes, form) {
             let place = Place { line: 1, unit: 0 };

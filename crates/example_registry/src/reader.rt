@@ -139,12 +139,12 @@ impl<'a> Reader<'a> {
             Entry::Value(value) => return self.read_value(output, part.units, value),
             Entry::Header(header) => self.bytes = bytes_after(header, self.form),
             Entry::Key(key) => {
-                self.key = if key.path.is_empty() {
+                self.key = if key.is_deleted || key.path.is_empty() {
                     None
                 } else {
                     Some(key.path)
                 };
-                if self.is_json && self.key.is_some() {
+                if self.is_json && !key.path.is_empty() {
                     put_key(output, key)?;
                 }
             }

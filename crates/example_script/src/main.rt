@@ -6,8 +6,11 @@
 use std::alloc::{AllocError, Global};
 use std::fmt::Write;
 use std::process::ExitCode;
-use wide_files::{OptionWord, Outcome, Place, Program, ShownText, run};
+use wide_files::{
+    Form, NoForm, OptionWord, Outcome, Place, Program, ShownText, form_of, name_of, run,
+};
 use wide_script::Session;
+use widestring::convert::Scheme;
 use widestring::error::OutOfMemory;
 use widestring::unit::length_as_utf16;
 
@@ -27,7 +30,12 @@ Makes the calls in the lines of the files of a string, and prints the result of 
   replace FROM TO TEXT  replaces characters by a text
 
 A text goes to the end of its line, or is in quotes. The escapes of JSON are \\n, \\\" and the like in it, and \\uD83D is
-a unit by its number. The files are UTF-8. The exit status is 0, or 1 if a line was no call, or 2 if the arguments are wrong.
+a unit by its number. The files are UTF-8; for the file - standard input is read.
+
+  --help, --version
+
+The exit status is 0, or 1 if a line was no call or a file could not be read, or 2
+if the arguments are wrong.
 ";
 
 // A script program has no options.
@@ -46,7 +54,13 @@ fn read_line(
         Ok(text) => text,
         Err(fault) => {
             let valid = bytes.get(..fault.valid_up_to()).unwrap_or(b"");
-            let unit = length_as_utf16(str::from_utf8(valid).unwrap_or(""));
+            let valid = str::from_utf8(valid).unwrap_or("");
+            let unit = length_as_utf16(valid);
+            writeln!(
+                outcome.output,
+                "{}\u{fffd}: no UTF-8 at unit {unit}",
+                ShownText(valid)
+            )?;
             return Ok(outcome.report_at(Place { line, unit }, "no UTF-8")?);
         }
     };
@@ -63,6 +77,19 @@ fn read_line(
         }
     }
     Ok(())
+}
+
+// Returns the text of a file without its BOM, or reports that it has another form than UTF-8. A file that looks like no
+// form of Unicode is read line by line, and what is no UTF-8 in it is reported there.
+fn text_of<'a>(bytes: &'a [u8], outcome: &mut Outcome<'_>) -> Result<Option<&'a [u8]>, AllocError> {
+    let scheme = match form_of(bytes, None, Scheme::Utf8) {
+        Ok((Form::Unicode(Scheme::Utf8), len)) => return Ok(bytes.get(len..)),
+        Ok((Form::Windows(_), _)) | Err(NoForm(None)) => return Ok(Some(bytes)),
+        Ok((Form::Unicode(scheme), _)) | Err(NoForm(Some(scheme))) => scheme,
+    };
+    let name = name_of(scheme);
+    outcome.report(format_args!("it looks like {name}, and calls are read in UTF-8"))?;
+    Ok(None)
 }
 
 impl Program for Script {
@@ -96,8 +123,10 @@ impl Program for Script {
         bytes: &[u8],
         outcome: &mut Outcome<'_>,
     ) -> Result<(), OutOfMemory> {
+        let Some(text) = text_of(bytes, outcome)? else {
+            return Ok(());
+        };
         let mut session = Session::new(alloc);
-        let text = bytes.strip_prefix(b"\xef\xbb\xbf").unwrap_or(bytes);
         for (number, line) in text.split(|byte| *byte == b'\n').enumerate() {
             read_line(&mut session, line, number.saturating_add(1), outcome)?;
         }

@@ -13,8 +13,8 @@ use std::alloc::Global;
 use std::process::ExitCode;
 use subtitles::{Request, Subtitles};
 use wide_files::{
-    Document, Form, NoForm, OptionWord, Outcome, Place, Program, encode_units, form_named, form_of,
-    run, scheme_named,
+    Document, Form, NoForm, OptionWord, Outcome, Place, Program, bom_len, encode_units, form_named,
+    form_of, run, scheme_named,
 };
 use widestring::convert::Scheme;
 use widestring::error::OutOfMemory;
@@ -38,8 +38,9 @@ const HELP: &str = "\
 Moves the times of the subtitles in a .srt file by MILLISECONDS, such as +1500 or
 -1500, and writes the file.
 
-  --form FORM  the form of the file: UTF-8, UTF-16LE, CP1252 ..; without it a BOM
-               or the first digit decides
+  --form FORM  the form of the file: UTF-8, UTF-16, UTF-16LE, UTF-16BE, UTF-32,
+               UTF-32LE, UTF-32BE, CP874, CP1250 to CP1258; without it a BOM or
+               the first digit decides
   --to FORM    the form to write, which is otherwise that of the file; a file in a
                code page becomes UTF-8
   --drop       leaves out lines that are ill formed, in place of writing U+FFFD
@@ -69,15 +70,22 @@ fn form_of_file(bytes: &[u8], asked: Option<Form>) -> Result<(Form, usize), NoFo
     }
 }
 
+// Returns whether a file in UTF-16 or UTF-32 begins with a BOM.
+fn has_bom_of(bytes: &[u8], scheme: Scheme) -> bool {
+    let (little, big) = match scheme {
+        Scheme::Utf32 => (Scheme::Utf32Le, Scheme::Utf32Be),
+        _ => (Scheme::Utf16Le, Scheme::Utf16Be),
+    };
+    bom_len(bytes, little) > 0 || bom_len(bytes, big) > 0
+}
+
 // Returns the scheme that is written for a file in a form, and whether it has a BOM: a code page becomes UTF-8, and a
 // file whose BOM told its order is written in that order.
 fn target_of(bytes: &[u8], form: Form, to: Option<Scheme>) -> (Scheme, bool) {
     let has_bom = match form {
         Form::Windows(_) => false,
-        Form::Unicode(Scheme::Utf8) => bytes.starts_with(b"\xef\xbb\xbf"),
-        Form::Unicode(_) => bytes.starts_with(b"\xff\xfe")
-            || bytes.starts_with(b"\xfe\xff")
-            || bytes.starts_with(b"\0\0\xfe\xff"),
+        Form::Unicode(scheme @ (Scheme::Utf16 | Scheme::Utf32)) => has_bom_of(bytes, scheme),
+        Form::Unicode(scheme) => bom_len(bytes, scheme) > 0,
     };
     let scheme = match (to, form) {
         (Some(scheme), _) => scheme,

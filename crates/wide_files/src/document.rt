@@ -11,6 +11,9 @@ use wide_schemes::Scheme;
 // How many bytes of units are decoded before they are stored.
 const CHUNK_BYTES: usize = 4096;
 
+// How many units are encoded at once: their text fits into a chunk in any scheme.
+const PIECE_UNITS: usize = 512;
+
 // 2^64 + 1: each round but the last one reads a byte or stops for want of space.
 const MOST_ROUNDS: u128 = 0x1_0000_0000_0000_0001;
 
@@ -127,8 +130,13 @@ pub fn encode_units(
     let mut converter = Converter::new(Scheme::Utf16Le, scheme, Some(Policy::Each), has_bom);
     let mut bytes = Vec::new(alloc);
     let mut chunk = [0u8; CHUNK_BYTES];
-    for unit in units {
-        let progress = converter.push(&unit.to_le_bytes(), &mut chunk);
+    let mut piece = Vec::new(alloc);
+    for units in units.chunks(PIECE_UNITS) {
+        piece.clear();
+        for unit in units {
+            piece.extend_from_slice(&unit.to_le_bytes())?;
+        }
+        let progress = converter.push(&piece, &mut chunk);
         bytes.extend_from_slice(&chunk[..progress.written])?;
     }
     let progress = converter.push_last(&[], &mut chunk);

@@ -5,7 +5,7 @@ ghost use Rattle.wide_files.specs.Forms.{IsSameInAnyCase, name_of};
 ghost use Rattle.wide_files.specs.declared.form.Form.{Form};
 ghost use Rattle.wide_schemes.specs.declared.scheme.Scheme.{Scheme};
 
-use crate::beginning::{looks_like, scheme_by_bom};
+use crate::beginning::{bom_len, looks_like, scheme_by_bom};
 use crate::code_pages::CodePage;
 use std::fmt;
 use wide_schemes::Scheme;
@@ -132,14 +132,14 @@ impl fmt::Display for NoForm {
 pub fn form_of(bytes: &[u8], asked: Option<Form>, usual: Scheme) -> Result<(Form, usize), NoForm>
     ensures asked { (form : Form) → asked ≡ Some form → IfOk result (λ found. found.0 ≡ form) }
 {
-    let by_bom = scheme_by_bom(bytes);
     if let Some(form) = asked {
-        return match by_bom {
-            Some((scheme, len)) if form == Form::Unicode(scheme) => Ok((form, len)),
-            _ => Ok((form, 0)),
+        let len = match form {
+            Form::Unicode(scheme) => bom_len(bytes, scheme),
+            Form::Windows(_) => 0,
         };
+        return Ok((form, len));
     }
-    if let Some((scheme, len)) = by_bom {
+    if let Some((scheme, len)) = scheme_by_bom(bytes) {
         return Ok((Form::Unicode(scheme), len));
     }
     let like = looks_like(bytes);

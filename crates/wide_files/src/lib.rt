@@ -11,11 +11,11 @@ mod program;
 mod shown;
 mod words;
 
-pub use beginning::{looks_like, scheme_by_bom};
+pub use beginning::{bom_len, looks_like, scheme_by_bom};
 pub use code_pages::CodePage;
 pub use document::{BadBytes, Document, encode_units};
 pub use form::{Form, NoForm, form_named, form_of, name_of, scheme_named};
 pub use outcome::{Outcome, Place};
 pub use program::{Program, run};
-pub use shown::{Quoted, Shown, ShownText};
+pub use shown::{Quoted, Shown, ShownText, is_hidden};
 pub use words::{OptionWord, Refusal, Words, words_of};

@@ -2,6 +2,7 @@
 
 ghost use Rattle.std.specs.Prelude.{◌≡◌, ◌<◌, ◌≤◌, string_len};
 
+use crate::shown::ShownText;
 use std::alloc::{AllocError, Global};
 use std::fmt::{Display, Write};
 
@@ -17,7 +18,8 @@ pub struct Place {
 /// What a program writes for a file: its output, and what it reports.
 #[derive(Drop)]
 pub struct Outcome<'a> {
-    /// The name of the file, which precedes each report, or nothing if there is only one file.
+    /// The name of the file, which precedes each report, or nothing if there is only one file. It may have any
+    /// characters: [`ShownText`](crate::ShownText) makes it safe on a terminal.
     pub file: &'a str,
     /// The output.
     pub output: String,
@@ -53,7 +55,7 @@ impl<'a> Outcome<'a> {
         if self.file.is_empty() {
             writeln!(self.reported, "{what}")
         } else {
-            writeln!(self.reported, "{}: {what}", self.file)
+            writeln!(self.reported, "{}: {what}", ShownText(self.file))
         }
     }
 
@@ -78,7 +80,11 @@ impl<'a> Outcome<'a> {
     /// If an allocation fails.
     pub fn note<T: Display + Drop>(&mut self, what: T) -> Result<(), AllocError> {
         let separator = if self.file.is_empty() { "" } else { ": " };
-        writeln!(self.notes, "{}{separator}note: {what}", self.file)
+        writeln!(
+            self.notes,
+            "{}{separator}note: {what}",
+            ShownText(self.file)
+        )
     }
 
     /// Notes something about a place, which does not change the status.
@@ -87,11 +93,12 @@ impl<'a> Outcome<'a> {
     ///
     /// If an allocation fails.
     pub fn note_at(&mut self, place: Place, what: &str) -> Result<(), AllocError> {
-        let (Place { line, unit }, file) = (place, self.file);
-        let separator = if file.is_empty() { "" } else { ": " };
+        let Place { line, unit } = place;
+        let separator = if self.file.is_empty() { "" } else { ": " };
         writeln!(
             self.notes,
-            "{file}{separator}line {line}, unit {unit}: note: {what}"
+            "{}{separator}line {line}, unit {unit}: note: {what}",
+            ShownText(self.file)
         )
     }
 }

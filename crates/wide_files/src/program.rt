@@ -1,6 +1,7 @@
 //! Runs a program on files.
 
 use crate::outcome::Outcome;
+use crate::shown::ShownText;
 use crate::words::{OptionWord, Refusal, Words, words_of};
 use std::alloc::Global;
 use std::fmt::{Display, Write as FmtWrite};
@@ -132,7 +133,7 @@ fn run_file<P: Program>(
     let bytes = match bytes_of(rt, file) {
         Ok(bytes) => bytes,
         Err(error) => {
-            report::<P, _>(rt, format_args!("{file}: {error}"));
+            report::<P, _>(rt, format_args!("{}: {error}", ShownText(file)));
             return Ok(Done {
                 reported: false,
                 failed: true,

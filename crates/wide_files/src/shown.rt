@@ -3,10 +3,11 @@
 use std::fmt;
 use wide_ustr::U16Str;
 
-// Returns whether a character would change what a terminal shows beside it: a control, a line or paragraph separator, or
-// one that changes the direction of text (Unicode Standard, sections 23.1 and 23.3).
-fn is_hidden(c: char) -> bool {
-    c.is_control() || matches!(c, '\u{2028}'..='\u{202e}' | '\u{2066}'..='\u{2069}' | '\u{feff}')
+/// Returns whether a character would change what a terminal shows beside it: a control, a line or paragraph separator, or
+/// one that changes the direction of text (Unicode Standard, sections 23.1 to 23.3).
+pub fn is_hidden(c: char) -> bool {
+    c.is_control()
+        || matches!(c, '\u{61c}' | '\u{200e}' | '\u{200f}' | '\u{2028}'..='\u{202e}' | '\u{2066}'..='\u{2069}' | '\u{feff}')
 }
 
 // Writes a character, escaped if a terminal would not show it.

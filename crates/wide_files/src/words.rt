@@ -1,5 +1,6 @@
 //! The arguments of a program: options, and then words.
 
+use crate::shown::ShownText;
 use std::fmt;
 
 /// An option of a program.
@@ -27,9 +28,12 @@ pub enum Refusal<'a> {
 impl fmt::Display for Refusal<'_> {
     fn fmt<W: fmt::Write>(&self, f: &mut fmt::Formatter<W>) -> fmt::Result {
         match self {
-            Refusal::UnknownOption(word) => write!(f, "unknown option '{word}'"),
-            Refusal::NoValue(word) => write!(f, "'{word}' needs an argument"),
-            Refusal::WrongValue(word, value) => write!(f, "'{word}' has no value '{value}'"),
+            Refusal::UnknownOption(word) => write!(f, "unknown option '{}'", ShownText(word)),
+            Refusal::NoValue(word) => write!(f, "'{}' needs an argument", ShownText(word)),
+            Refusal::WrongValue(word, value) => {
+                let (word, value) = (ShownText(word), ShownText(value));
+                write!(f, "'{word}' has no value '{value}'")
+            }
             Refusal::Words => f.write_str("wrong arguments"),
         }
     }

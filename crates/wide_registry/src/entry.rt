@@ -5,7 +5,7 @@ ghost use Rattle.std.specs.List.{before_first};
 ghost use Rattle.wide_registry.specs.Headers.{IsHeader};
 ghost use Rattle.wide_registry.specs.Lines.{begins_value, behind_line, is_line_end, without_blanks};
 
-use crate::bytes::{AT, behind_bytes};
+use crate::bytes::{AT, SEMICOLON, behind_bytes};
 use crate::digits::number_of;
 use crate::line::{
     after, first_line, is_text, last_units, split_before, without_blanks, without_last_marks,
@@ -120,17 +120,16 @@ pub fn typed_bytes(data: &[u16]) -> Option<(u32, &[u16])>
     Some((number_of(digits)?, after(behind, "):")?))
 }
 
-// Returns what follows the line in which a string ends, if only blanks follow it there. The string begins in another
-// line or in this one.
+// Returns what follows the line in which a string ends, if only blanks or a comment follow it there. The string begins in
+// another line or in this one.
 fn behind_string(text: &[u16]) -> Option<&[u16]>
     ensures { IfSome result (λ rest. length rest.now < length text.now) }
 {
     let (_, behind) = text.split_at(closing_quote(text)?);
     let line = first_line(after(behind, "\"")?);
-    if without_blanks(line.units).is_empty() {
-        Some(line.rest)
-    } else {
-        None
+    match without_blanks(line.units) {
+        [] | [SEMICOLON, ..] => Some(line.rest),
+        _ => None,
     }
 }
 

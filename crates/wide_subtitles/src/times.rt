@@ -1,6 +1,6 @@
 //! Lines of times, and times that are moved.
 
-ghost use Rattle.std.specs.Prelude.{◌≡◌, ◌+◌, ◌-◌, ◌<◌, ◌≤◌, ◌^◌, IfOk, IfSome, false, length, true};
+ghost use Rattle.std.specs.Prelude.{◌≡◌, ◌+◌, ◌-◌, ◌<◌, ◌≤◌, ◌^◌, IfOk, IfSome, false, length, nat_lt, true};
 
 const SPACE: u16 = b' ' as u16;
 
@@ -225,6 +225,10 @@ pub fn move_time(time: Time, by: u32, is_earlier: bool) -> Moved
     ensures earlier { time.is_negative ≡ false → is_earlier ≡ true → result.time ≡ time.size - by }
     ensures negative_later { time.is_negative ≡ true → is_earlier ≡ false → result.time ≡ by - time.size }
     ensures negative_earlier { time.is_negative ≡ true → is_earlier ≡ true → result.time ≡ 0 }
+    ensures cut_later { time.is_negative ≡ false → is_earlier ≡ false → result.is_cut ≡ false }
+    ensures cut_earlier { time.is_negative ≡ false → is_earlier ≡ true → result.is_cut ≡ nat_lt time.size by }
+    ensures cut_negative_later { time.is_negative ≡ true → is_earlier ≡ false → result.is_cut ≡ nat_lt by time.size }
+    ensures cut_negative_earlier { time.is_negative ≡ true → is_earlier ≡ true → result.is_cut ≡ nat_lt 0 (time.size + by) }
 {
     let by = u64::from(by);
     match (time.is_negative, is_earlier) {
