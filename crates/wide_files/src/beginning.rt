@@ -55,12 +55,12 @@ fn is_frequent(unit: u16) -> bool {
 // Returns the scheme of UTF-16 in which more than half of the units are frequent ones, and more than in the other one.
 // Units of zero say nothing.
 fn likely_utf16(bytes: &[u8]) -> Option<Scheme> {
-    let pairs = bytes.as_chunks::<2>().0;
-    let little = |pair: &[u8; 2]| is_frequent(u16::from_le_bytes(*pair));
-    let big = |pair: &[u8; 2]| is_frequent(u16::from_be_bytes(*pair));
-    let all = pairs.iter().filter(|pair| **pair != [0, 0]).count();
-    let little = pairs.iter().filter(|pair| little(*pair)).count();
-    let big = pairs.iter().filter(|pair| big(*pair)).count();
+    let (mut all, mut little, mut big) = (0usize, 0usize, 0usize);
+    for pair in bytes.as_chunks::<2>().0 {
+        all = all.saturating_add(usize::from(*pair != [0, 0]));
+        little = little.saturating_add(usize::from(is_frequent(u16::from_le_bytes(*pair))));
+        big = big.saturating_add(usize::from(is_frequent(u16::from_be_bytes(*pair))));
+    }
     if little > big && little > all / 2 {
         Some(Scheme::Utf16Le)
     } else if big > little && big > all / 2 {
