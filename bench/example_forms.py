@@ -40,7 +40,8 @@ def likely_utf16(data):
 def is_likely_utf8(data):
     """Returns whether bytes are UTF-8, or have more than two characters beyond ASCII for each ill-formed sequence."""
     faults = []
-    codecs.register_error("example_forms", lambda fault: (faults.append(fault) or "", fault.end))
+    # The beginning of a sequence at the end is none.
+    codecs.register_error("example_forms", lambda fault: ("" if fault.reason == "unexpected end of data" else faults.append(fault) or "", fault.end))
     data.decode("utf-8", "example_forms")
     return not faults or sum(byte >= 0xC2 for byte in data) // 3 >= len(faults)
 

@@ -70,7 +70,7 @@ fn likely_utf16(bytes: &[u8]) -> Option<Scheme> {
     }
 }
 
-// Returns how many sequences of bytes are ill-formed UTF-8.
+// Returns how many sequences of bytes are ill-formed UTF-8, without the beginning of one at the end.
 fn fault_count(bytes: &[u8]) -> usize {
     let mut count: usize = 0;
     let mut rest = bytes;
@@ -78,8 +78,10 @@ fn fault_count(bytes: &[u8]) -> usize {
         let Err(error) = str::from_utf8(rest) else {
             break;
         };
+        let Some(len) = error.error_len() else {
+            break;
+        };
         count = count.saturating_add(1);
-        let len = error.error_len().unwrap_or(rest.len());
         let read = error.valid_up_to().saturating_add(len);
         rest = rest.get(read..).unwrap_or_default();
     }
