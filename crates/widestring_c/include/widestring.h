@@ -38,6 +38,12 @@ extern "C" {
 #define WIDESTRING_VERSION "0.1.0"
 #define WIDESTRING_VERSION_NUMBER UINT32_C(0x000100)
 
+/*
+ * The number of the interface, which the shared library's name ends with. A program that is linked with one version runs
+ * with each later one of the same number, since its functions stay as they are.
+ */
+#define WIDESTRING_ABI "0.1"
+
 /* Returns the WIDESTRING_VERSION_NUMBER of the library that the program runs with. */
 uint32_t wide_version(void);
 
