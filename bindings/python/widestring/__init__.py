@@ -119,9 +119,9 @@ __all__ = [
     "wtf8_first_fault",
     "wtf8_to_utf16",
 ]
-__version__ = "0.1.0"
+__version__ = "0.2.0"
 # The version of the library that the functions below belong to, and the name under which the loader knows it.
-_VERSION = (0, 1)
+_VERSION = (0, 2)
 _NAME = "libwidestring.so.0.1"
 # A function of the library.
 _Call = Callable[..., int]
@@ -347,7 +347,7 @@ def version() -> Tuple[int, int, int]:
     """Returns the version of the library, as three numbers: major, minor and patch.
 
     >>> version()[:2]
-    (0, 1)
+    (0, 2)
     """
     number = _call("version")()
     return number >> 16, number >> 8 & 0xFF, number & 0xFF

@@ -205,7 +205,7 @@ pub enum Order {
 ///
 /// ```
 /// let number = widestring_proved::version();
-/// assert_eq!((number >> 16, number >> 8 & 0xff), (0, 1));
+/// assert_eq!((number >> 16, number >> 8 & 0xff), (0, 2));
 /// ```
 #[must_use]
 pub fn version() -> u32 {
