@@ -1,4 +1,4 @@
-"""Times widestring.py against Python's own codecs, which go through a string: `bench/bindings` runs it. Each line
+"""Times the package widestring against Python's own codecs, which go through a string: `bench/bindings` runs it. Each line
 has the time of the library, and this time as a multiple of that of the codecs."""
 
 import random

@@ -1,5 +1,7 @@
 """The pages as static HTML, in a folder that a browser opens without a server: CALLING.md as the first page, those of
-docs/api, and docs/DIFFERENCES.md, with a search over names, first sentences, tasks and differences."""
+docs/api, and docs/DIFFERENCES.md, with a search over names, first sentences, tasks and differences. If bindings/wasm/build
+has built the WebAssembly module, a page shows units and faults of what is typed there."""
+import base64
 import html
 import json
 import os.path
@@ -14,6 +16,9 @@ from sources import ROOT
 
 SITE = ROOT / "docs" / "site"
 FILES = ["style.css", "search.js"]
+# The WebAssembly module and its wrapper, and the page that they belong to.
+WASM = ROOT / "bindings" / "wasm" / "out"
+UNITS = "docs/units.md"
 DIFFERENCES = "docs/DIFFERENCES.md"
 PAGE = """<!doctype html>
 <html lang="en">
@@ -44,7 +49,7 @@ PAGE = """<!doctype html>
 </div>
 <script src="{root}search_index.js"></script>
 <script src="{root}search.js"></script>
-</body>
+{script}</body>
 </html>
 """
 
@@ -82,6 +87,8 @@ def menu(start):
         lines.append(link_item(module, path, start, own))
     lines.append(link_item("Definitions", "docs/api/definitions.md", start))
     lines.append(link_item("Differences from the crate", DIFFERENCES, start))
+    if has_module():
+        lines.append(link_item("Units and faults", UNITS, start))
     return "\n".join([*lines, "</ul>"])
 
 
@@ -98,12 +105,29 @@ def types_of(module, start):
     return f"<ul>{''.join(items)}</ul>" if items else ""
 
 
+def filled(path, title, body, script=""):
+    """Returns a page's HTML, of its parts."""
+    root = os.path.relpath(".", posixpath.dirname(file_of(path)) or ".") + "/"
+    return PAGE.format(title=html.escape(title), root=root.removeprefix("./"), menu=menu(path), body=body, script=script)
+
+
 def page(path, text, texts):
     """Returns a page's HTML."""
     body = markdown.Converter(target_from(path, texts)).convert(text)
-    title = markdown.plain(next(it.text for it in markdown.headings(text)))
-    root = os.path.relpath(".", posixpath.dirname(file_of(path)) or ".") + "/"
-    return PAGE.format(title=html.escape(title), root=root.removeprefix("./"), menu=menu(path), body=body)
+    return filled(path, markdown.plain(next(it.text for it in markdown.headings(text))), body)
+
+
+def has_module():
+    return (WASM / "widestring.wasm").is_file()
+
+
+def units_page():
+    """Returns the page of units and faults. The module and its wrapper are in the page itself, since a page that is
+    opened without a server may not load them."""
+    module = base64.b64encode((WASM / "widestring.wasm").read_bytes()).decode()
+    wrapper = re.sub(r"^export ", "", sources.text_of(WASM / "index.mjs"), flags=re.M)
+    script = f'<script type="module">\nconst MODULE = "{module}";\n{wrapper}\n{sources.text_of(SITE / "units.js")}</script>\n'
+    return filled(UNITS, "Units and faults", sources.text_of(SITE / "units.html"), script)
 
 
 def rows(path, text, kinds):
@@ -152,4 +176,6 @@ def write(site, made, folder):
     (folder / "search_index.js").write_text(f"const SEARCH_INDEX = [\n{listed}\n];\n", encoding="utf-8")
     for name in FILES:
         shutil.copyfile(SITE / name, folder / name)
+    if has_module():
+        (folder / file_of(UNITS)).write_text(units_page(), encoding="utf-8")
     return 0

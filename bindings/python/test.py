@@ -1,4 +1,4 @@
-"""Tests widestring.py against Python's own codecs: `test.py COUNT SEED [LIBRARY..]`, with COUNT random texts of each
+"""Tests the package widestring against Python's own codecs: `test.py COUNT SEED [LIBRARY..]`, with COUNT random texts of each
 kind. The module must reject each LIBRARY."""
 
 import array

@@ -1,5 +1,6 @@
-//! Links the static library: the one in the folder WIDESTRING_LIB_DIR, or else one of this crate's version that
-//! pkg-config finds, or else the one of this repository. PKG_CONFIG names the program that is called.
+//! Links the static library: the one in the folder WIDESTRING_LIB_DIR, or else the one that a released crate has in
+//! `lib`, or else one of this crate's version that pkg-config finds, or else the one of this repository. PKG_CONFIG names
+//! the program that is called.
 //!
 //! Documentation links nothing, so a missing library is a warning here. The crate itself then does not compile, unless
 //! it is documented or DOCS_RS is set.
@@ -107,11 +108,15 @@ fn main() {
     }
     println!("cargo:rustc-check-cfg=cfg(widestring_missing)");
     check_target();
-    let own = Path::new(&env::var("CARGO_MANIFEST_DIR").expect("cargo's folder"))
-        .join("../../crates/widestring_c/out");
+    let here = PathBuf::from(env::var_os("CARGO_MANIFEST_DIR").expect("cargo's folder"));
+    let released = here.join("lib");
     let folders = match env::var_os("WIDESTRING_LIB_DIR") {
         Some(folder) => vec![absolute(&folder).unwrap_or_else(|_| folder.into())],
-        None => known_folder().into_iter().chain([own]).collect(),
+        None if name_in(&released).is_some() => vec![released],
+        None => known_folder()
+            .into_iter()
+            .chain([here.join("../../crates/widestring_c/out")])
+            .collect(),
     };
     let Some((folder, name)) = folders
         .iter()

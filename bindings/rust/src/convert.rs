@@ -79,6 +79,7 @@ impl Converter {
     /// # Panics
     ///
     /// If the linked library is [not this crate's](crate#panics).
+    #[must_use]
     pub fn new(from: Scheme, to: Scheme, policy: Option<Lossy>, bom: bool) -> Self {
         Self {
             state: calls::convert_start(from, to, policy, bom),
@@ -147,21 +148,25 @@ impl Converter {
     }
 
     /// Counts the bytes of the text that were converted.
+    #[must_use]
     pub fn bytes(&self) -> u64 {
         self.state.bytes
     }
 
     /// Counts the items, characters and faults, that these bytes are.
+    #[must_use]
     pub fn items(&self) -> u64 {
         self.state.items
     }
 
     /// Counts the items that are faults, which the policy replaced.
+    #[must_use]
     pub fn faults(&self) -> u64 {
         self.state.faults
     }
 
     /// Counts the bytes that were read and are no item so far, at most four.
+    #[must_use]
     pub fn kept(&self) -> usize {
         self.state.kept
     }

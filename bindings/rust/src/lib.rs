@@ -205,8 +205,9 @@ pub enum Order {
 ///
 /// ```
 /// let number = widestring_proved::version();
-/// assert_eq!((number >> 16, number >> 8 & 0xff), (0, 1));
+/// assert_eq!((number >> 16, number >> 8 & 0xff), (0, 2));
 /// ```
+#[must_use]
 pub fn version() -> u32 {
     calls::version()
 }
@@ -226,6 +227,7 @@ pub fn version() -> u32 {
 /// assert_eq!(utf8_first_fault("H\u{e9}".as_bytes()), None);
 /// assert_eq!(utf8_first_fault(b"H\xc3\xa9\xff"), Some(3));
 /// ```
+#[must_use]
 pub fn utf8_first_fault(text: &[u8]) -> Option<usize> {
     calls::UTF8_FIRST_FAULT.offset(text)
 }
@@ -244,6 +246,7 @@ pub fn utf8_first_fault(text: &[u8]) -> Option<usize> {
 /// assert_eq!(utf16_first_fault(&[0x48, 0xd83d, 0xde00]), None);
 /// assert_eq!(utf16_first_fault(&[0x48, 0xde00, 0xd83d]), Some(1));
 /// ```
+#[must_use]
 pub fn utf16_first_fault(units: &[u16]) -> Option<usize> {
     calls::UTF16_FIRST_FAULT.offset(units)
 }
@@ -263,6 +266,7 @@ pub fn utf16_first_fault(units: &[u16]) -> Option<usize> {
 /// assert_eq!(utf32_first_fault(&[0x48, 0x1f600]), None);
 /// assert_eq!(utf32_first_fault(&[0x48, 0x1f600, 0x110000]), Some(2));
 /// ```
+#[must_use]
 pub fn utf32_first_fault(units: &[u32]) -> Option<usize> {
     calls::UTF32_FIRST_FAULT.offset(units)
 }
@@ -284,6 +288,7 @@ pub fn utf32_first_fault(units: &[u32]) -> Option<usize> {
 /// assert_eq!(utf16_first_fault(&units), Some(2));
 /// assert_eq!(utf16_first_fault_item(&units), Some(1));
 /// ```
+#[must_use]
 pub fn utf16_first_fault_item(units: &[u16]) -> Option<usize> {
     calls::UTF16_FIRST_FAULT_ITEM.count(units)
 }
@@ -294,6 +299,7 @@ pub fn utf16_first_fault_item(units: &[u16]) -> Option<usize> {
 /// # Panics
 ///
 /// If the linked library is [not this crate's](crate#panics).
+#[must_use]
 pub fn utf32_first_fault_item(units: &[u32]) -> Option<usize> {
     calls::UTF32_FIRST_FAULT_ITEM.count(units)
 }
@@ -312,6 +318,7 @@ pub fn utf32_first_fault_item(units: &[u32]) -> Option<usize> {
 /// assert_eq!(utf8_char_count("\u{e9}\u{1f600}".as_bytes()), Some(2));
 /// assert_eq!(utf8_char_count(b"\xff"), None);
 /// ```
+#[must_use]
 pub fn utf8_char_count(text: &[u8]) -> Option<usize> {
     calls::UTF8_CHAR_COUNT.count(text)
 }
@@ -330,6 +337,7 @@ pub fn utf8_char_count(text: &[u8]) -> Option<usize> {
 /// assert_eq!(utf16_char_count(&[0x48, 0xd83d, 0xde00]), Some(2));
 /// assert_eq!(utf16_char_count(&[0x48, 0xd83d]), None);
 /// ```
+#[must_use]
 pub fn utf16_char_count(units: &[u16]) -> Option<usize> {
     calls::UTF16_CHAR_COUNT.count(units)
 }
@@ -339,6 +347,7 @@ pub fn utf16_char_count(units: &[u16]) -> Option<usize> {
 /// # Panics
 ///
 /// If the linked library is [not this crate's](crate#panics).
+#[must_use]
 pub fn utf32_char_count(units: &[u32]) -> Option<usize> {
     calls::UTF32_CHAR_COUNT.count(units)
 }
@@ -358,6 +367,7 @@ pub fn utf32_char_count(units: &[u32]) -> Option<usize> {
 /// let end = utf16_first_nul(&units).unwrap_or(units.len());
 /// assert_eq!(utf16_to_utf8(&units[..end]).unwrap(), "Hi");
 /// ```
+#[must_use]
 pub fn utf16_first_nul(units: &[u16]) -> Option<usize> {
     calls::UTF16_FIRST_NUL.offset(units)
 }
@@ -367,6 +377,7 @@ pub fn utf16_first_nul(units: &[u16]) -> Option<usize> {
 /// # Panics
 ///
 /// If the linked library is [not this crate's](crate#panics).
+#[must_use]
 pub fn utf32_first_nul(units: &[u32]) -> Option<usize> {
     calls::UTF32_FIRST_NUL.offset(units)
 }
@@ -386,6 +397,7 @@ pub fn utf32_first_nul(units: &[u32]) -> Option<usize> {
 /// assert_eq!(utf16_find_unit(&[0x48, 0x69], 0x69), Some(1));
 /// assert_eq!(utf16_find_unit(&[0x48, 0x69], 0x21), None);
 /// ```
+#[must_use]
 pub fn utf16_find_unit(units: &[u16], unit: u16) -> Option<usize> {
     calls::UTF16_FIND_UNIT.offset(units, unit)
 }
@@ -396,6 +408,7 @@ pub fn utf16_find_unit(units: &[u16], unit: u16) -> Option<usize> {
 /// # Panics
 ///
 /// If the linked library is [not this crate's](crate#panics).
+#[must_use]
 pub fn utf32_find_unit(units: &[u32], unit: u32) -> Option<usize> {
     calls::UTF32_FIND_UNIT.offset(units, unit)
 }
@@ -417,6 +430,7 @@ pub fn utf32_find_unit(units: &[u32], unit: u32) -> Option<usize> {
 /// assert_eq!(utf16_find(&[0x48, 0x69, 0x21], &[0x21, 0x69]), None);
 /// assert_eq!(utf16_find(&[0x48], &[]), Some(0));
 /// ```
+#[must_use]
 pub fn utf16_find(units: &[u16], needle: &[u16]) -> Option<usize> {
     calls::UTF16_FIND.offset(units, needle)
 }
@@ -428,6 +442,7 @@ pub fn utf16_find(units: &[u16], needle: &[u16]) -> Option<usize> {
 /// # Panics
 ///
 /// If the linked library is [not this crate's](crate#panics).
+#[must_use]
 pub fn utf32_find(units: &[u32], needle: &[u32]) -> Option<usize> {
     calls::UTF32_FIND.offset(units, needle)
 }
@@ -449,6 +464,7 @@ pub fn utf32_find(units: &[u32], needle: &[u32]) -> Option<usize> {
 /// assert_eq!(utf16_rfind(&[0x61, 0x62, 0x61], &[]), Some(3));
 /// assert_eq!(utf16_rfind(&[0x61], &[0x62]), None);
 /// ```
+#[must_use]
 pub fn utf16_rfind(units: &[u16], needle: &[u16]) -> Option<usize> {
     calls::UTF16_RFIND.offset(units, needle)
 }
@@ -460,6 +476,7 @@ pub fn utf16_rfind(units: &[u16], needle: &[u16]) -> Option<usize> {
 /// # Panics
 ///
 /// If the linked library is [not this crate's](crate#panics).
+#[must_use]
 pub fn utf32_rfind(units: &[u32], needle: &[u32]) -> Option<usize> {
     calls::UTF32_RFIND.offset(units, needle)
 }
@@ -480,6 +497,7 @@ pub fn utf32_rfind(units: &[u32], needle: &[u32]) -> Option<usize> {
 /// assert_eq!(utf16_find_ignore_ascii_case(&[0x48, 0x69], &[0x49]), Some(1));
 /// assert_eq!(utf16_find_ignore_ascii_case(&[0xe4], &[0xc4]), None);
 /// ```
+#[must_use]
 pub fn utf16_find_ignore_ascii_case(units: &[u16], needle: &[u16]) -> Option<usize> {
     calls::UTF16_FIND_IN_ANY_CASE.offset(units, needle)
 }
@@ -491,6 +509,7 @@ pub fn utf16_find_ignore_ascii_case(units: &[u16], needle: &[u16]) -> Option<usi
 /// # Panics
 ///
 /// If the linked library is [not this crate's](crate#panics).
+#[must_use]
 pub fn utf32_find_ignore_ascii_case(units: &[u32], needle: &[u32]) -> Option<usize> {
     calls::UTF32_FIND_IN_ANY_CASE.offset(units, needle)
 }
@@ -510,6 +529,7 @@ pub fn utf32_find_ignore_ascii_case(units: &[u32], needle: &[u32]) -> Option<usi
 /// assert!(utf16_eq_ignore_ascii_case(&[0x48, 0x69], &[0x68, 0x49]));
 /// assert!(!utf16_eq_ignore_ascii_case(&[0xe4], &[0xc4]));
 /// ```
+#[must_use]
 pub fn utf16_eq_ignore_ascii_case(units: &[u16], other: &[u16]) -> bool {
     calls::UTF16_EQ_IN_ANY_CASE.flag(units, other)
 }
@@ -520,6 +540,7 @@ pub fn utf16_eq_ignore_ascii_case(units: &[u16], other: &[u16]) -> bool {
 /// # Panics
 ///
 /// If the linked library is [not this crate's](crate#panics).
+#[must_use]
 pub fn utf32_eq_ignore_ascii_case(units: &[u32], other: &[u32]) -> bool {
     calls::UTF32_EQ_IN_ANY_CASE.flag(units, other)
 }
@@ -541,6 +562,7 @@ pub fn utf32_eq_ignore_ascii_case(units: &[u32], other: &[u32]) -> bool {
 /// assert_eq!(emoji[..].cmp(&letter[..]), Ordering::Less);
 /// assert_eq!(utf16_compare_code_points(&emoji, &letter), Ordering::Greater);
 /// ```
+#[must_use]
 pub fn utf16_compare_code_points(units: &[u16], other: &[u16]) -> Ordering {
     calls::UTF16_COMPARE.order(units, other)
 }
@@ -550,6 +572,7 @@ pub fn utf16_compare_code_points(units: &[u16], other: &[u16]) -> Ordering {
 /// # Panics
 ///
 /// If the linked library is [not this crate's](crate#panics).
+#[must_use]
 pub fn utf32_compare_code_points(units: &[u32], other: &[u32]) -> Ordering {
     calls::UTF32_COMPARE.order(units, other)
 }
@@ -704,6 +727,7 @@ pub fn utf32_to_utf16(units: &[u32]) -> Result<Vec<u16>, Fault> {
 /// assert_eq!(utf16_to_utf8_lossy(&units, Lossy::Run), "Hi\u{fffd}");
 /// assert_eq!(utf16_to_utf8_lossy(&units, Lossy::Skip), "Hi");
 /// ```
+#[must_use]
 pub fn utf16_to_utf8_lossy(units: &[u16], policy: Lossy) -> String {
     calls::UTF16_TO_UTF8.lossy_text(units, policy, calls::UTF16_TO_UTF8_LOSSILY)
 }
@@ -721,6 +745,7 @@ pub fn utf16_to_utf8_lossy(units: &[u16], policy: Lossy) -> String {
 ///
 /// assert_eq!(utf32_to_utf8_lossy(&[0x48, 0x110000], Lossy::Each), "H\u{fffd}");
 /// ```
+#[must_use]
 pub fn utf32_to_utf8_lossy(units: &[u32], policy: Lossy) -> String {
     calls::UTF32_TO_UTF8.lossy_text(units, policy, calls::UTF32_TO_UTF8_LOSSILY)
 }
@@ -744,6 +769,7 @@ pub fn utf32_to_utf8_lossy(units: &[u32], policy: Lossy) -> String {
 /// assert_eq!(utf8_to_utf16_lossy(text, Lossy::Each), [0x48, 0xfffd, 0xfffd]);
 /// assert_eq!(utf8_to_utf16_lossy(text, Lossy::Run), [0x48, 0xfffd]);
 /// ```
+#[must_use]
 pub fn utf8_to_utf16_lossy(text: &[u8], policy: Lossy) -> Vec<u16> {
     calls::UTF8_TO_UTF16.lossy(text, policy, calls::UTF8_TO_UTF16_LOSSILY)
 }
@@ -764,6 +790,7 @@ pub fn utf8_to_utf16_lossy(text: &[u8], policy: Lossy) -> Vec<u16> {
 ///
 /// assert_eq!(utf8_to_utf32_lossy(b"H\xf0\x9f\xff", Lossy::Each), [0x48, 0xfffd, 0xfffd]);
 /// ```
+#[must_use]
 pub fn utf8_to_utf32_lossy(text: &[u8], policy: Lossy) -> Vec<u32> {
     calls::UTF8_TO_UTF32.lossy(text, policy, calls::UTF8_TO_UTF32_LOSSILY)
 }
@@ -781,6 +808,7 @@ pub fn utf8_to_utf32_lossy(text: &[u8], policy: Lossy) -> Vec<u32> {
 ///
 /// assert_eq!(utf16_repair(&[0xd83d, 0xde00, 0xdc00]), [0xd83d, 0xde00, 0xfffd]);
 /// ```
+#[must_use]
 pub fn utf16_repair(units: &[u16]) -> Vec<u16> {
     calls::UTF16_REPAIR.of(units)
 }
@@ -799,6 +827,7 @@ pub fn utf16_repair(units: &[u16]) -> Vec<u16> {
 ///
 /// assert_eq!(utf32_repair(&[0x48, 0xd800, 0x110000]), [0x48, 0xfffd, 0xfffd]);
 /// ```
+#[must_use]
 pub fn utf32_repair(units: &[u32]) -> Vec<u32> {
     calls::UTF32_REPAIR.of(units)
 }
@@ -817,6 +846,7 @@ pub fn utf32_repair(units: &[u32]) -> Vec<u32> {
 ///
 /// assert_eq!(utf16_to_ascii_lowercase(&[0x48, 0x69, 0xc4]), [0x68, 0x69, 0xc4]);
 /// ```
+#[must_use]
 pub fn utf16_to_ascii_lowercase(units: &[u16]) -> Vec<u16> {
     calls::UTF16_LOWERCASE.of(units)
 }
@@ -827,6 +857,7 @@ pub fn utf16_to_ascii_lowercase(units: &[u16]) -> Vec<u16> {
 /// # Panics
 ///
 /// If the linked library is [not this crate's](crate#panics).
+#[must_use]
 pub fn utf32_to_ascii_lowercase(units: &[u32]) -> Vec<u32> {
     calls::UTF32_LOWERCASE.of(units)
 }
@@ -845,6 +876,7 @@ pub fn utf32_to_ascii_lowercase(units: &[u32]) -> Vec<u32> {
 ///
 /// assert_eq!(utf16_to_ascii_uppercase(&[0x48, 0x69, 0xe4]), [0x48, 0x49, 0xe4]);
 /// ```
+#[must_use]
 pub fn utf16_to_ascii_uppercase(units: &[u16]) -> Vec<u16> {
     calls::UTF16_UPPERCASE.of(units)
 }
@@ -855,6 +887,7 @@ pub fn utf16_to_ascii_uppercase(units: &[u16]) -> Vec<u16> {
 /// # Panics
 ///
 /// If the linked library is [not this crate's](crate#panics).
+#[must_use]
 pub fn utf32_to_ascii_uppercase(units: &[u32]) -> Vec<u32> {
     calls::UTF32_UPPERCASE.of(units)
 }
@@ -1051,6 +1084,7 @@ pub fn utf8_to_utf32_lossy_into(
 /// assert_eq!(utf16_bytes_to_utf8(&file[2..], Order::Big).unwrap(), "Hi");
 /// assert_eq!(utf16_bytes_order(&file[2..]), None);
 /// ```
+#[must_use]
 pub fn utf16_bytes_order(bytes: &[u8]) -> Option<Order> {
     calls::utf16_bytes_order(bytes)
 }
@@ -1071,6 +1105,7 @@ pub fn utf16_bytes_order(bytes: &[u8]) -> Option<Order> {
 /// assert_eq!(utf16_bytes_complete(b"H\x00\x3d\xd8", Order::Little), 2);
 /// assert_eq!(utf16_bytes_complete(b"H\x00\x3d\xd8\x00\xde", Order::Little), 6);
 /// ```
+#[must_use]
 pub fn utf16_bytes_complete(bytes: &[u8], order: Order) -> usize {
     calls::utf16_bytes_complete(bytes, order)
 }
@@ -1090,6 +1125,7 @@ pub fn utf16_bytes_complete(bytes: &[u8], order: Order) -> usize {
 /// assert_eq!(utf16_bytes_first_fault(b"H\x00\x00\xdc", Order::Little), Some(1));
 /// assert_eq!(utf16_bytes_first_fault(b"H\x00i", Order::Little), None);
 /// ```
+#[must_use]
 pub fn utf16_bytes_first_fault(bytes: &[u8], order: Order) -> Option<usize> {
     calls::utf16_bytes_first_fault(bytes, order)
 }
@@ -1109,6 +1145,7 @@ pub fn utf16_bytes_first_fault(bytes: &[u8], order: Order) -> Option<usize> {
 /// assert!(utf16_bytes_end_in_fault(b"H\x00\x00\xdc", Order::Little, false));
 /// assert!(!utf16_bytes_end_in_fault(b"H\x00", Order::Little, true));
 /// ```
+#[must_use]
 pub fn utf16_bytes_end_in_fault(bytes: &[u8], order: Order, after_fault: bool) -> bool {
     calls::utf16_bytes_end_in_fault(bytes, order, after_fault)
 }
@@ -1156,6 +1193,7 @@ pub fn utf16_bytes_to_utf8(bytes: &[u8], order: Order) -> Result<String, Fault> 
 /// assert_eq!(utf16_bytes_to_utf8_lossy(bytes, Order::Big, Lossy::Run, false), "\u{fffd}H");
 /// assert_eq!(utf16_bytes_to_utf8_lossy(bytes, Order::Big, Lossy::Run, true), "H");
 /// ```
+#[must_use]
 pub fn utf16_bytes_to_utf8_lossy(
     bytes: &[u8],
     order: Order,
@@ -1178,6 +1216,7 @@ pub fn utf16_bytes_to_utf8_lossy(
 ///
 /// assert_eq!(utf8_fault_count(b"H\xf0\x9f\xff"), 2);
 /// ```
+#[must_use]
 pub fn utf8_fault_count(text: &[u8]) -> usize {
     calls::UTF8_FAULT_COUNT.number(text)
 }
@@ -1195,6 +1234,7 @@ pub fn utf8_fault_count(text: &[u8]) -> usize {
 ///
 /// assert_eq!(utf16_fault_count(&[0x48, 0xdc00, 0xdc00]), 2);
 /// ```
+#[must_use]
 pub fn utf16_fault_count(units: &[u16]) -> usize {
     calls::UTF16_FAULT_COUNT.number(units)
 }
@@ -1204,6 +1244,7 @@ pub fn utf16_fault_count(units: &[u16]) -> usize {
 /// # Panics
 ///
 /// If the linked library is [not this crate's](crate#panics).
+#[must_use]
 pub fn utf32_fault_count(units: &[u32]) -> usize {
     calls::UTF32_FAULT_COUNT.number(units)
 }
@@ -1213,6 +1254,7 @@ pub fn utf32_fault_count(units: &[u32]) -> usize {
 /// # Panics
 ///
 /// If the linked library is [not this crate's](crate#panics).
+#[must_use]
 pub fn utf8_is_ascii(text: &[u8]) -> bool {
     calls::UTF8_IS_ASCII.holds(text)
 }
@@ -1230,6 +1272,7 @@ pub fn utf8_is_ascii(text: &[u8]) -> bool {
 ///
 /// assert!(utf16_is_ascii(&[0x48, 0x69]));
 /// ```
+#[must_use]
 pub fn utf16_is_ascii(units: &[u16]) -> bool {
     calls::UTF16_IS_ASCII.holds(units)
 }
@@ -1239,6 +1282,7 @@ pub fn utf16_is_ascii(units: &[u16]) -> bool {
 /// # Panics
 ///
 /// If the linked library is [not this crate's](crate#panics).
+#[must_use]
 pub fn utf32_is_ascii(units: &[u32]) -> bool {
     calls::UTF32_IS_ASCII.holds(units)
 }
@@ -1257,6 +1301,7 @@ pub fn utf32_is_ascii(units: &[u32]) -> bool {
 ///
 /// assert_eq!(utf16_floor_char_boundary(&[0x48, 0xd83d, 0xde00], 2), 1);
 /// ```
+#[must_use]
 pub fn utf16_floor_char_boundary(units: &[u16], offset: usize) -> usize {
     calls::utf16_floor_char_boundary(units, offset)
 }
@@ -1274,6 +1319,7 @@ pub fn utf16_floor_char_boundary(units: &[u16], offset: usize) -> usize {
 ///
 /// assert_eq!(utf16_to_utf32_lossy(&[0x48, 0xdc00], Lossy::Each), [0x48, 0xfffd]);
 /// ```
+#[must_use]
 pub fn utf16_to_utf32_lossy(units: &[u16], policy: Lossy) -> Vec<u32> {
     calls::UTF16_TO_UTF32.lossy(units, policy, calls::UTF16_TO_UTF32_LOSSILY)
 }
@@ -1283,6 +1329,7 @@ pub fn utf16_to_utf32_lossy(units: &[u16], policy: Lossy) -> Vec<u32> {
 /// # Panics
 ///
 /// If the linked library is [not this crate's](crate#panics).
+#[must_use]
 pub fn utf32_to_utf16_lossy(units: &[u32], policy: Lossy) -> Vec<u16> {
     calls::UTF32_TO_UTF16.lossy(units, policy, calls::UTF32_TO_UTF16_LOSSILY)
 }
@@ -1302,6 +1349,7 @@ pub fn utf32_to_utf16_lossy(units: &[u32], policy: Lossy) -> Vec<u16> {
 /// assert_eq!(wtf8_first_fault(b"\xed\xa0\x80"), None);
 /// assert_eq!(wtf8_first_fault(b"H\xff"), Some(1));
 /// ```
+#[must_use]
 pub fn wtf8_first_fault(text: &[u8]) -> Option<usize> {
     calls::WTF8_FIRST_FAULT.offset(text)
 }
@@ -1322,6 +1370,7 @@ pub fn wtf8_first_fault(text: &[u8]) -> Option<usize> {
 /// assert_eq!(text, b"H\xed\xa0\x80");
 /// assert_eq!(wtf8_to_utf16(&text).unwrap(), units);
 /// ```
+#[must_use]
 pub fn utf16_to_wtf8(units: &[u16]) -> Vec<u8> {
     let text = calls::UTF16_TO_WTF8.strict(units);
     text.expect("WTF-8 has all units")
@@ -1354,6 +1403,7 @@ pub fn wtf8_to_utf16(text: &[u8]) -> Result<Vec<u16>, Fault> {
 /// assert_eq!(utf16_from_bytes(b"\0H", Order::Big).unwrap(), [0x48]);
 /// assert_eq!(utf16_from_bytes(b"\0", Order::Big), None);
 /// ```
+#[must_use]
 pub fn utf16_from_bytes(bytes: &[u8], order: Order) -> Option<Vec<u16>> {
     calls::UTF16_FROM_BYTES.of(bytes, order, bytes.len() / 2)
 }
@@ -1371,6 +1421,7 @@ pub fn utf16_from_bytes(bytes: &[u8], order: Order) -> Option<Vec<u16>> {
 ///
 /// assert_eq!(utf16_to_bytes(&[0x48], Order::Big), b"\0H");
 /// ```
+#[must_use]
 pub fn utf16_to_bytes(units: &[u16], order: Order) -> Vec<u8> {
     let bytes = calls::UTF16_TO_BYTES.of(units, order, 2 * units.len());
     bytes.expect("each order has a number")
@@ -1381,6 +1432,7 @@ pub fn utf16_to_bytes(units: &[u16], order: Order) -> Vec<u8> {
 /// # Panics
 ///
 /// If the linked library is [not this crate's](crate#panics).
+#[must_use]
 pub fn utf16_swap_bytes(units: &[u16]) -> Vec<u16> {
     calls::UTF16_SWAP_BYTES.of(units)
 }
@@ -1409,6 +1461,7 @@ pub fn utf16_repair_in_place(units: &mut [u16]) -> usize {
 /// # Panics
 ///
 /// If the linked library is [not this crate's](crate#panics).
+#[must_use]
 pub fn utf32_from_bytes(bytes: &[u8], order: Order) -> Option<Vec<u32>> {
     calls::UTF32_FROM_BYTES.of(bytes, order, bytes.len() / 4)
 }
@@ -1418,6 +1471,7 @@ pub fn utf32_from_bytes(bytes: &[u8], order: Order) -> Option<Vec<u32>> {
 /// # Panics
 ///
 /// If the linked library is [not this crate's](crate#panics).
+#[must_use]
 pub fn utf32_to_bytes(units: &[u32], order: Order) -> Vec<u8> {
     let bytes = calls::UTF32_TO_BYTES.of(units, order, 4 * units.len());
     bytes.expect("each order has a number")
@@ -1428,6 +1482,7 @@ pub fn utf32_to_bytes(units: &[u32], order: Order) -> Vec<u8> {
 /// # Panics
 ///
 /// If the linked library is [not this crate's](crate#panics).
+#[must_use]
 pub fn utf32_swap_bytes(units: &[u32]) -> Vec<u32> {
     calls::UTF32_SWAP_BYTES.of(units)
 }

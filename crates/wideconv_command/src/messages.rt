@@ -14,7 +14,7 @@ pub const FAILED: u8 = 1;
 pub const WRONG_USAGE: u8 = 2;
 
 /// What `--version` prints.
-pub const VERSION: &str = "wideconv 0.1.0\n";
+pub const VERSION: &str = "wideconv 0.2.0\n";
 
 /// What `-l` prints: the name of each scheme.
 pub const FORMS_LIST: &str =

@@ -48,7 +48,7 @@ static CASES: [Case; 6] = [
     Case {
         words: &["--version"],
         input: b"",
-        output: b"wideconv 0.1.0\n",
+        output: b"wideconv 0.2.0\n",
         status: 0,
     },
 ];

@@ -33,10 +33,16 @@ extern "C" {
 
 /* The version of this header, as numbers, as a string, and as one number: major * 0x10000 + minor * 0x100 + patch. */
 #define WIDESTRING_VERSION_MAJOR 0
-#define WIDESTRING_VERSION_MINOR 1
+#define WIDESTRING_VERSION_MINOR 2
 #define WIDESTRING_VERSION_PATCH 0
-#define WIDESTRING_VERSION "0.1.0"
-#define WIDESTRING_VERSION_NUMBER UINT32_C(0x000100)
+#define WIDESTRING_VERSION "0.2.0"
+#define WIDESTRING_VERSION_NUMBER UINT32_C(0x000200)
+
+/*
+ * The number of the interface, which the shared library's name ends with. A program that is linked with one version runs
+ * with each later one of the same number, since its functions stay as they are.
+ */
+#define WIDESTRING_ABI "0.1"
 
 /* Returns the WIDESTRING_VERSION_NUMBER of the library that the program runs with. */
 uint32_t wide_version(void);

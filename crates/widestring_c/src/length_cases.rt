@@ -48,7 +48,7 @@ fn counts_units_of_a_text(rt: HostRuntime) {
         wide_utf8_utf32_length(&[]) == 0,
         wide_utf16_utf32_length(&[]) == 0,
         wide_utf32_utf16_length(&[]) == 0,
-        wide_version() == 0x00_0100,
+        wide_version() == 0x00_0200,
     ];
     all_hold(&rt, &cases);
 }

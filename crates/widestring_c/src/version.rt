@@ -6,7 +6,7 @@ ghost use Rattle.std.specs.Prelude.{◌≡◌, ◌+◌, ◌*◌};
 /// `WIDESTRING_VERSION_NUMBER`.
 #[unsafe(no_mangle)]
 pub extern "C" fn wide_version() -> u32
-    ensures { result ≡ 65536 * 0 + 256 * 1 + 0 }
+    ensures { result ≡ 65536 * 0 + 256 * 2 + 0 }
 {
-    0x00_0100
+    0x00_0200
 }

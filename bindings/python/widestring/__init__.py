@@ -21,22 +21,110 @@ strides is read in the order of its indices.
 
 A conversion raises MemoryError if there is no memory for its result.
 
-The shared library is the one that WIDESTRING_LIBRARY names, or one that the system's loader finds. ImportError is
-raised if there is none, or if it has another version. The module requires CPython 3.7 or later, since it writes into
+The shared library is the one that WIDESTRING_LIBRARY names, or the one beside the module, or one that the system's
+loader finds. ImportError is raised if there is none, or if it has another version. The module requires CPython 3.7 or later, since it writes into
 bytes objects that are not filled first.
 """
 
+from __future__ import annotations
+
+import builtins
 import codecs
 import ctypes
 import ctypes.util
 import enum
 import operator
 import os
+import pathlib
 import sys
+from typing import TYPE_CHECKING, Any, Callable, Optional, Tuple, Union
 
+if TYPE_CHECKING:
+    from typing import SupportsIndex
+
+    from _typeshed import ReadableBuffer as _Readable
+    from _typeshed import WriteableBuffer as _Writable
+
+__all__ = [
+    "Converter",
+    "Fault",
+    "IncrementalDecoder",
+    "IncrementalEncoder",
+    "Lossy",
+    "Order",
+    "Scheme",
+    "utf16_bytes_complete",
+    "utf16_bytes_end_in_fault",
+    "utf16_bytes_first_fault",
+    "utf16_bytes_order",
+    "utf16_bytes_to_utf8",
+    "utf16_bytes_to_utf8_lossy",
+    "utf16_char_count",
+    "utf16_compare_code_points",
+    "utf16_eq_ignore_ascii_case",
+    "utf16_fault_count",
+    "utf16_find",
+    "utf16_find_ignore_ascii_case",
+    "utf16_find_unit",
+    "utf16_first_fault",
+    "utf16_first_fault_item",
+    "utf16_first_nul",
+    "utf16_floor_char_boundary",
+    "utf16_from_bytes",
+    "utf16_is_ascii",
+    "utf16_repair",
+    "utf16_repair_in_place",
+    "utf16_rfind",
+    "utf16_swap_bytes",
+    "utf16_to_ascii_lowercase",
+    "utf16_to_ascii_uppercase",
+    "utf16_to_bytes",
+    "utf16_to_utf32",
+    "utf16_to_utf32_lossy",
+    "utf16_to_utf8",
+    "utf16_to_utf8_lossy",
+    "utf16_to_wtf8",
+    "utf32_char_count",
+    "utf32_compare_code_points",
+    "utf32_eq_ignore_ascii_case",
+    "utf32_fault_count",
+    "utf32_find",
+    "utf32_find_ignore_ascii_case",
+    "utf32_find_unit",
+    "utf32_first_fault",
+    "utf32_first_fault_item",
+    "utf32_first_nul",
+    "utf32_from_bytes",
+    "utf32_is_ascii",
+    "utf32_repair",
+    "utf32_repair_in_place",
+    "utf32_rfind",
+    "utf32_swap_bytes",
+    "utf32_to_ascii_lowercase",
+    "utf32_to_ascii_uppercase",
+    "utf32_to_bytes",
+    "utf32_to_utf16",
+    "utf32_to_utf16_lossy",
+    "utf32_to_utf8",
+    "utf32_to_utf8_lossy",
+    "utf8_char_count",
+    "utf8_fault_count",
+    "utf8_first_fault",
+    "utf8_is_ascii",
+    "utf8_to_utf16",
+    "utf8_to_utf16_lossy",
+    "utf8_to_utf32",
+    "utf8_to_utf32_lossy",
+    "version",
+    "wtf8_first_fault",
+    "wtf8_to_utf16",
+]
+__version__ = "0.2.0"
 # The version of the library that the functions below belong to, and the name under which the loader knows it.
-_VERSION = (0, 1)
+_VERSION = (0, 2)
 _NAME = "libwidestring.so.0.1"
+# A function of the library.
+_Call = Callable[..., int]
 # This many bytes at three offsets decide whether a text is likely ASCII, also in UTF-16 and UTF-32.
 _SAMPLE = 128
 # What a function returns if it has no number to report.
@@ -152,11 +240,11 @@ class Fault(ValueError):
     1 ill-formed at offset 1
     """
 
-    def __init__(self, offset):
+    def __init__(self, offset: int) -> None:
         super().__init__(offset)
         self.offset = offset
 
-    def __str__(self):
+    def __str__(self) -> str:
         return f"ill-formed at offset {self.offset}"
 
 
@@ -222,14 +310,15 @@ class Order(enum.IntEnum):
     BIG = 1
 
 
-def _import_error(why):
-    return ImportError(f"{why}: bindings/c/install installs the library, and WIDESTRING_LIBRARY names the file", name="widestring")
+def _import_error(why: str) -> ImportError:
+    return ImportError(f"{why}: install the library for C, or name its file in WIDESTRING_LIBRARY", name="widestring")
 
 
-def _load():
+def _load() -> ctypes.CDLL:
     named = os.environ.get("WIDESTRING_LIBRARY")
+    own = pathlib.Path(__file__).with_name(_NAME)
     try:
-        return ctypes.CDLL(named or _NAME)
+        return ctypes.CDLL(named or (str(own) if own.is_file() else _NAME))
     except OSError as error:
         found = None if named else ctypes.util.find_library("widestring")
         if found is None:
@@ -240,25 +329,25 @@ def _load():
         raise _import_error(f"no library of widestring ({error})") from error
 
 
-def _symbol(name):
+def _symbol(name: str) -> Any:
     try:
         return getattr(_library, name)
     except AttributeError as error:
         raise _import_error(f"the library has no function {name}") from error
 
 
-def _call(name):
+def _call(name: str) -> _Call:
     """Returns a function of the library, by its name without `wide_`."""
     call = _symbol(f"wide_{name}")
     call.restype, *call.argtypes = _SIGNATURES[name]
-    return call
+    return call  # type: ignore[no-any-return]
 
 
-def version():
+def version() -> Tuple[int, int, int]:
     """Returns the version of the library, as three numbers: major, minor and patch.
 
     >>> version()[:2]
-    (0, 1)
+    (0, 2)
     """
     number = _call("version")()
     return number >> 16, number >> 8 & 0xFF, number & 0xFF
@@ -277,7 +366,7 @@ _new_bytes.argtypes = [ctypes.c_void_p, ctypes.c_ssize_t]
 _new_bytes.restype = ctypes.py_object
 
 
-def _buffer(count, width):
+def _buffer(count: int, width: int) -> bytes:
     """Returns a bytes object of this many elements to which there is no other reference, for a function to write
     into.
 
@@ -286,17 +375,17 @@ def _buffer(count, width):
     """
     if count > sys.maxsize // width:
         raise MemoryError
-    return _new_bytes(None, count * width)
+    return _new_bytes(None, count * width)  # type: ignore[no-any-return]
 
 
-def _is_read_as(width, view):
+def _is_read_as(width: int, view: memoryview) -> bool:
     """Returns whether the elements of a buffer are bytes, or units of this size. Elements of an empty array of
     ctypes have no size before Python 3.10."""
     code = view.format[1:] if view.format[:1] in _OWN_ORDER else view.format
     return (code in _BYTES and view.itemsize in (0, 1)) or (code in _UNITS[width] and view.itemsize in (0, width))
 
 
-def _elements(data, width):
+def _elements(data: _Readable, width: int) -> Tuple[bytes, int]:
     """Returns the text as bytes, and its length in elements. Only an object whose type is exactly `bytes` is trusted
     to know its length."""
     if type(data) is not bytes:
@@ -310,21 +399,21 @@ def _elements(data, width):
     return data, len(data) // width
 
 
-def _number(call, data, width, *more):
+def _number(call: _Call, data: _Readable, width: int, *more: Any) -> Optional[int]:
     """Returns the number that a function returns, or None if it has no number to report."""
     data, length = _elements(data, width)
     result = call(data, length, *more)
     return None if result == _NONE else result
 
 
-def _offset(call, data, width, *more):
+def _offset(call: _Call, data: _Readable, width: int, *more: Any) -> Optional[int]:
     """Returns the offset that a function returns, or None if it returns the length, since it found nothing."""
     data, length = _elements(data, width)
     result = call(data, length, *more)
     return None if result == length else result
 
 
-def _find_unit(call, units, width, unit):
+def _find_unit(call: _Call, units: _Readable, width: int, unit: SupportsIndex) -> Optional[int]:
     """Returns the offset of a unit, or None if it does not occur. A number out of the range of a unit does not
     occur."""
     data, unit = _elements(units, width), operator.index(unit)
@@ -332,7 +421,7 @@ def _find_unit(call, units, width, unit):
     return None if result == data[1] else result
 
 
-def _sample(data):
+def _sample(data: bytes) -> bytes:
     """Returns bytes at three offsets, or all bytes if they are few."""
     middle = len(data) // 2
     return data if len(data) <= 3 * _SAMPLE else data[:_SAMPLE] + data[middle : middle + _SAMPLE] + data[-_SAMPLE:]
@@ -342,19 +431,19 @@ class _Conversion:
     """A function that writes: the sizes of the units that it reads and writes, and the function that returns the
     length for well-formed text."""
 
-    def __init__(self, name, width, result_width, length_name=None):
+    def __init__(self, name: str, width: int, result_width: int, length_name: Optional[str] = None) -> None:
         self.call = _call(name)
         self.length = _call(length_name) if length_name else None
         self.width, self.result_width = width, result_width
 
-    def write(self, data, length, needed, *more):
+    def write(self, data: bytes, length: int, needed: int, *more: Any) -> bytes:
         """Returns the bytes that the function writes, given their number of elements."""
         buffer = _buffer(needed, self.result_width)
         if self.call(data, length, *more, buffer, needed) != needed:
             raise SystemError("the library of widestring returns two lengths for one text")
         return buffer
 
-    def short(self, data, length, *more):
+    def short(self, data: bytes, length: int, *more: Any) -> Optional[bytes]:
         """Returns the result if it has as many elements as the input, as for ASCII. Returns None if the input likely
         isn't ASCII, or if the result has another length."""
         if not _sample(data).isascii():
@@ -362,17 +451,17 @@ class _Conversion:
         buffer = _buffer(length, self.result_width)
         return buffer if self.call(data, length, *more, buffer, length) == length else None
 
-    def strict(self, data, first_fault):
+    def strict(self, data: _Readable, first_fault: _Call) -> bytes:
         data, length = _elements(data, self.width)
         text = self.short(data, length)
         if text is not None:
             return text
-        needed = self.length(data, length)
+        needed = self.call(data, length, None, 0) if self.length is None else self.length(data, length)
         if needed == _NONE:
             raise Fault(first_fault(data, length))
         return self.write(data, length, needed)
 
-    def lossy(self, data, *more):
+    def lossy(self, data: _Readable, *more: Any) -> bytes:
         data, length = _elements(data, self.width)
         text = self.short(data, length, *more) if self.length else None
         if text is not None:
@@ -452,7 +541,7 @@ _utf16_bytes_to_utf8 = _Conversion("utf16_bytes_to_utf8", 1, 1)
 _utf16_bytes_to_utf8_lossy = _Conversion("utf16_bytes_to_utf8_lossy_with", 1, 1)
 
 
-def utf8_first_fault(text):
+def utf8_first_fault(text: _Readable) -> Optional[int]:
     r"""Returns the offset, in bytes, of the first byte of the first ill-formed sequence, or None if the text is well
     formed.
 
@@ -467,7 +556,7 @@ def utf8_first_fault(text):
     return _offset(_first_fault8, text, 1)
 
 
-def utf16_first_fault(units):
+def utf16_first_fault(units: _Readable) -> Optional[int]:
     r"""Returns the offset, in units, of the first ill-formed unit, or None if the units are well formed.
 
     Raises:
@@ -480,7 +569,7 @@ def utf16_first_fault(units):
     return _offset(_first_fault16, units, 2)
 
 
-def utf32_first_fault(units):
+def utf32_first_fault(units: _Readable) -> Optional[int]:
     """Returns the offset, in units, of the first unit that is not a scalar value, or None if the units are well formed.
 
     Raises:
@@ -494,7 +583,7 @@ def utf32_first_fault(units):
     return _offset(_first_fault32, units, 4)
 
 
-def utf16_first_fault_item(units):
+def utf16_first_fault_item(units: _Readable) -> Optional[int]:
     r"""Returns how many characters precede the first ill-formed unit, or None if the units are well formed.
 
     Raises:
@@ -507,7 +596,7 @@ def utf16_first_fault_item(units):
     return _number(_first_fault_item16, units, 2)
 
 
-def utf32_first_fault_item(units):
+def utf32_first_fault_item(units: _Readable) -> Optional[int]:
     """Returns how many characters precede the first unit that is not a scalar value, or None if the units are well
     formed. It is the offset that utf32_first_fault returns.
 
@@ -518,7 +607,7 @@ def utf32_first_fault_item(units):
     return _number(_first_fault_item32, units, 4)
 
 
-def utf8_char_count(text):
+def utf8_char_count(text: _Readable) -> Optional[int]:
     """Returns how many characters the text has, or None if it is ill-formed.
 
     Raises:
@@ -530,7 +619,7 @@ def utf8_char_count(text):
     return _number(_char_count8, text, 1)
 
 
-def utf16_char_count(units):
+def utf16_char_count(units: _Readable) -> Optional[int]:
     """Returns how many characters the units have, or None if they are ill-formed.
 
     Raises:
@@ -543,7 +632,7 @@ def utf16_char_count(units):
     return _number(_char_count16, units, 2)
 
 
-def utf32_char_count(units):
+def utf32_char_count(units: _Readable) -> Optional[int]:
     """Returns how many characters the units have, or None if they are ill-formed. Each unit is a character.
 
     Raises:
@@ -553,7 +642,7 @@ def utf32_char_count(units):
     return _number(_char_count32, units, 4)
 
 
-def utf16_first_nul(units):
+def utf16_first_nul(units: _Readable) -> Optional[int]:
     r"""Returns the offset, in units, of the first NUL, or None if there is none.
 
     Raises:
@@ -566,7 +655,7 @@ def utf16_first_nul(units):
     return _offset(_first_nul16, units, 2)
 
 
-def utf32_first_nul(units):
+def utf32_first_nul(units: _Readable) -> Optional[int]:
     """Returns the offset, in units, of the first NUL, or None if there is none.
 
     Raises:
@@ -576,7 +665,7 @@ def utf32_first_nul(units):
     return _offset(_first_nul32, units, 4)
 
 
-def utf16_find_unit(units, unit):
+def utf16_find_unit(units: _Readable, unit: SupportsIndex) -> Optional[int]:
     """Returns the offset, in units, of the first unit with this number, or None if there is none, also for a negative
     number and one above 0xFFFF. Units are compared as numbers, also if they are ill-formed.
 
@@ -590,7 +679,7 @@ def utf16_find_unit(units, unit):
     return _find_unit(_find_unit16, units, 2, unit)
 
 
-def utf32_find_unit(units, unit):
+def utf32_find_unit(units: _Readable, unit: SupportsIndex) -> Optional[int]:
     """Returns the offset, in units, of the first unit with this number, or None if there is none, also for a negative
     number and one above 0xFFFFFFFF. Units are compared as numbers, also if they are not scalar values.
 
@@ -604,7 +693,7 @@ def utf32_find_unit(units, unit):
     return _find_unit(_find_unit32, units, 4, unit)
 
 
-def utf16_find(units, needle):
+def utf16_find(units: _Readable, needle: _Readable) -> Optional[int]:
     """Returns the offset, in units, of the first occurrence of a needle, or None if it does not occur. An empty needle
     occurs at offset 0. Units are compared as numbers, also if they are ill-formed. The time grows at most linearly with
     both lengths.
@@ -619,7 +708,7 @@ def utf16_find(units, needle):
     return _number(_find16, units, 2, *_elements(needle, 2))
 
 
-def utf32_find(units, needle):
+def utf32_find(units: _Readable, needle: _Readable) -> Optional[int]:
     """Returns the offset, in units, of the first occurrence of a needle, or None if it does not occur. An empty needle
     occurs at offset 0. Units are compared as numbers, also if they are not scalar values. The time grows at most
     linearly with both lengths.
@@ -634,7 +723,7 @@ def utf32_find(units, needle):
     return _number(_find32, units, 4, *_elements(needle, 4))
 
 
-def utf16_rfind(units, needle):
+def utf16_rfind(units: _Readable, needle: _Readable) -> Optional[int]:
     """Returns the offset, in units, of the last occurrence of a needle, or None if it does not occur. An empty needle
     occurs at the end. Units are compared as numbers, also if they are ill-formed. The time grows at most linearly with
     both lengths.
@@ -649,7 +738,7 @@ def utf16_rfind(units, needle):
     return _number(_rfind16, units, 2, *_elements(needle, 2))
 
 
-def utf32_rfind(units, needle):
+def utf32_rfind(units: _Readable, needle: _Readable) -> Optional[int]:
     """Returns the offset, in units, of the last occurrence of a needle, or None if it does not occur. An empty needle
     occurs at the end. Units are compared as numbers, also if they are not scalar values. The time grows at most
     linearly with both lengths.
@@ -664,7 +753,7 @@ def utf32_rfind(units, needle):
     return _number(_rfind32, units, 4, *_elements(needle, 4))
 
 
-def utf16_find_ignore_ascii_case(units, needle):
+def utf16_find_ignore_ascii_case(units: _Readable, needle: _Readable) -> Optional[int]:
     """Returns the offset, in units, of the first occurrence of a needle without regard to the case of ASCII letters, or
     None if it does not occur. An empty needle occurs at offset 0. Letters past ASCII are compared as they are. The time
     grows at most linearly with both lengths.
@@ -679,7 +768,7 @@ def utf16_find_ignore_ascii_case(units, needle):
     return _number(_find_ignore_ascii_case16, units, 2, *_elements(needle, 2))
 
 
-def utf32_find_ignore_ascii_case(units, needle):
+def utf32_find_ignore_ascii_case(units: _Readable, needle: _Readable) -> Optional[int]:
     """Returns the offset, in units, of the first occurrence of a needle without regard to the case of ASCII letters, or
     None if it does not occur. An empty needle occurs at offset 0. Letters past ASCII are compared as they are. The time
     grows at most linearly with both lengths.
@@ -694,7 +783,7 @@ def utf32_find_ignore_ascii_case(units, needle):
     return _number(_find_ignore_ascii_case32, units, 4, *_elements(needle, 4))
 
 
-def utf16_eq_ignore_ascii_case(units, other):
+def utf16_eq_ignore_ascii_case(units: _Readable, other: _Readable) -> bool:
     """Returns whether both texts have the same units without regard to the case of ASCII letters. Letters past ASCII
     are compared as they are.
 
@@ -710,7 +799,7 @@ def utf16_eq_ignore_ascii_case(units, other):
     return _eq_ignore_ascii_case16(*_elements(units, 2), *_elements(other, 2)) != 0
 
 
-def utf32_eq_ignore_ascii_case(units, other):
+def utf32_eq_ignore_ascii_case(units: _Readable, other: _Readable) -> bool:
     """Returns whether both texts have the same units without regard to the case of ASCII letters. Letters past ASCII
     are compared as they are.
 
@@ -726,7 +815,7 @@ def utf32_eq_ignore_ascii_case(units, other):
     return _eq_ignore_ascii_case32(*_elements(units, 4), *_elements(other, 4)) != 0
 
 
-def utf16_compare_code_points(units, other):
+def utf16_compare_code_points(units: _Readable, other: _Readable) -> int:
     """Compares two texts by their code points, as `str` is ordered. Returns -1 if the first text is less than the other
     one, 0 if both are the same, and 1 if the first one is greater. An unpaired surrogate is a code point too.
 
@@ -740,7 +829,7 @@ def utf16_compare_code_points(units, other):
     return _compare_code_points16(*_elements(units, 2), *_elements(other, 2))
 
 
-def utf32_compare_code_points(units, other):
+def utf32_compare_code_points(units: _Readable, other: _Readable) -> int:
     """Compares two texts by their code points, as `str` is ordered. Returns -1 if the first text is less than the other
     one, 0 if both are the same, and 1 if the first one is greater. A unit that is not a scalar value counts by its
     number.
@@ -755,7 +844,7 @@ def utf32_compare_code_points(units, other):
     return _compare_code_points32(*_elements(units, 4), *_elements(other, 4))
 
 
-def utf16_to_utf8(units):
+def utf16_to_utf8(units: _Readable) -> bytes:
     r"""Converts well-formed UTF-16 to UTF-8.
 
     Raises:
@@ -773,7 +862,7 @@ def utf16_to_utf8(units):
     return _utf16_to_utf8.strict(units, _first_fault16)
 
 
-def utf32_to_utf8(units):
+def utf32_to_utf8(units: _Readable) -> bytes:
     """Converts well-formed UTF-32 to UTF-8.
 
     Raises:
@@ -787,7 +876,7 @@ def utf32_to_utf8(units):
     return _utf32_to_utf8.strict(units, _first_fault32)
 
 
-def utf8_to_utf16(text):
+def utf8_to_utf16(text: _Readable) -> bytes:
     r"""Converts well-formed UTF-8 to UTF-16.
 
     Raises:
@@ -804,7 +893,7 @@ def utf8_to_utf16(text):
     return _utf8_to_utf16.strict(text, _first_fault8)
 
 
-def utf8_to_utf32(text):
+def utf8_to_utf32(text: _Readable) -> bytes:
     r"""Converts well-formed UTF-8 to UTF-32.
 
     Raises:
@@ -817,7 +906,7 @@ def utf8_to_utf32(text):
     return _utf8_to_utf32.strict(text, _first_fault8)
 
 
-def utf16_to_utf32(units):
+def utf16_to_utf32(units: _Readable) -> bytes:
     r"""Converts well-formed UTF-16 to UTF-32.
 
     Raises:
@@ -832,7 +921,7 @@ def utf16_to_utf32(units):
     return _utf16_to_utf32.strict(units, _first_fault16)
 
 
-def utf32_to_utf16(units):
+def utf32_to_utf16(units: _Readable) -> bytes:
     """Converts well-formed UTF-32 to UTF-16.
 
     Raises:
@@ -846,7 +935,7 @@ def utf32_to_utf16(units):
     return _utf32_to_utf16.strict(units, _first_fault32)
 
 
-def utf16_to_utf8_lossy(units, policy=Lossy.EACH):
+def utf16_to_utf8_lossy(units: _Readable, policy: Lossy = Lossy.EACH) -> bytes:
     r"""Converts any UTF-16 to UTF-8, and replaces ill-formed units by the policy.
 
     Raises:
@@ -860,7 +949,7 @@ def utf16_to_utf8_lossy(units, policy=Lossy.EACH):
     return _utf16_to_utf8_lossy.lossy(units, Lossy(policy))
 
 
-def utf32_to_utf8_lossy(units, policy=Lossy.EACH):
+def utf32_to_utf8_lossy(units: _Readable, policy: Lossy = Lossy.EACH) -> bytes:
     """Converts any UTF-32 to UTF-8, and replaces units that are not scalar values by the policy.
 
     Raises:
@@ -874,7 +963,7 @@ def utf32_to_utf8_lossy(units, policy=Lossy.EACH):
     return _utf32_to_utf8_lossy.lossy(units, Lossy(policy))
 
 
-def utf8_to_utf16_lossy(text, policy=Lossy.EACH):
+def utf8_to_utf16_lossy(text: _Readable, policy: Lossy = Lossy.EACH) -> bytes:
     r"""Converts any bytes to UTF-16 under a policy. It replaces maximal subparts of ill-formed sequences: the longest
     prefix that begins a character of UTF-8 but does not continue as one, or a byte that begins none.
 
@@ -888,7 +977,7 @@ def utf8_to_utf16_lossy(text, policy=Lossy.EACH):
     return _utf8_to_utf16_lossy.lossy(text, Lossy(policy))
 
 
-def utf8_to_utf32_lossy(text, policy=Lossy.EACH):
+def utf8_to_utf32_lossy(text: _Readable, policy: Lossy = Lossy.EACH) -> bytes:
     r"""Converts any bytes to UTF-32 under a policy. It replaces maximal subparts of ill-formed sequences: the longest
     prefix that begins a character of UTF-8 but does not continue as one, or a byte that begins none.
 
@@ -902,7 +991,7 @@ def utf8_to_utf32_lossy(text, policy=Lossy.EACH):
     return _utf8_to_utf32_lossy.lossy(text, Lossy(policy))
 
 
-def utf16_repair(units):
+def utf16_repair(units: _Readable) -> bytes:
     r"""Copies UTF-16, and replaces each ill-formed unit by U+FFFD. The result has as many units as the input.
 
     Raises:
@@ -915,7 +1004,7 @@ def utf16_repair(units):
     return _utf16_repair.lossy(units)
 
 
-def utf32_repair(units):
+def utf32_repair(units: _Readable) -> bytes:
     """Copies UTF-32, and replaces each unit that is not a scalar value by U+FFFD. The result has as many units as the
     input.
 
@@ -930,7 +1019,7 @@ def utf32_repair(units):
     return _utf32_repair.lossy(units)
 
 
-def utf16_to_ascii_lowercase(units):
+def utf16_to_ascii_lowercase(units: _Readable) -> bytes:
     """Copies UTF-16, and writes each ASCII letter in lower case. All other units are copied as they are, also
     ill-formed ones. The result has as many units as the input.
 
@@ -944,7 +1033,7 @@ def utf16_to_ascii_lowercase(units):
     return _utf16_to_ascii_lowercase.lossy(units)
 
 
-def utf32_to_ascii_lowercase(units):
+def utf32_to_ascii_lowercase(units: _Readable) -> bytes:
     """Copies UTF-32, and writes each ASCII letter in lower case. All other units are copied as they are, also those
     that are not scalar values. The result has as many units as the input.
 
@@ -958,7 +1047,7 @@ def utf32_to_ascii_lowercase(units):
     return _utf32_to_ascii_lowercase.lossy(units)
 
 
-def utf16_to_ascii_uppercase(units):
+def utf16_to_ascii_uppercase(units: _Readable) -> bytes:
     """Copies UTF-16, and writes each ASCII letter in upper case. All other units are copied as they are, also
     ill-formed ones. The result has as many units as the input.
 
@@ -972,7 +1061,7 @@ def utf16_to_ascii_uppercase(units):
     return _utf16_to_ascii_uppercase.lossy(units)
 
 
-def utf32_to_ascii_uppercase(units):
+def utf32_to_ascii_uppercase(units: _Readable) -> bytes:
     """Copies UTF-32, and writes each ASCII letter in upper case. All other units are copied as they are, also those
     that are not scalar values. The result has as many units as the input.
 
@@ -986,7 +1075,7 @@ def utf32_to_ascii_uppercase(units):
     return _utf32_to_ascii_uppercase.lossy(units)
 
 
-def utf16_bytes_order(data):
+def utf16_bytes_order(data: _Readable) -> Optional[Order]:
     r"""Returns the byte order of the byte order mark (BOM) at the start of UTF-16 in bytes, or None if there is none.
     The two bytes of the BOM do not belong to the text.
 
@@ -1003,7 +1092,7 @@ def utf16_bytes_order(data):
     return Order(number) if number < 2 else None
 
 
-def utf16_bytes_complete(data, order):
+def utf16_bytes_complete(data: _Readable, order: Order) -> int:
     r"""Returns how many bytes at the start are whole units whose meaning no later bytes can change: all whole units,
     except a last high surrogate. At most three bytes follow them.
 
@@ -1019,7 +1108,7 @@ def utf16_bytes_complete(data, order):
     return _utf16_bytes_complete(*_elements(data, 1), Order(order))
 
 
-def utf16_bytes_first_fault(data, order):
+def utf16_bytes_first_fault(data: _Readable, order: Order) -> Optional[int]:
     r"""Returns the offset, in units, of the first ill-formed unit of UTF-16 in this byte order, or None if there is
     none. An odd last byte is ignored.
 
@@ -1035,7 +1124,7 @@ def utf16_bytes_first_fault(data, order):
     return None if offset == length // 2 else offset
 
 
-def utf16_bytes_end_in_fault(data, order, after_fault=False):
+def utf16_bytes_end_in_fault(data: _Readable, order: Order, after_fault: bool = False) -> bool:
     r"""Returns whether the last whole unit is ill-formed. If there are no whole units, returns `after_fault`, which
     says whether the unit before the bytes is ill-formed. utf16_bytes_to_utf8_lossy takes the result for the next chunk.
 
@@ -1049,7 +1138,7 @@ def utf16_bytes_end_in_fault(data, order, after_fault=False):
     return _utf16_bytes_end_in_fault(*_elements(data, 1), Order(order), bool(after_fault)) != 0
 
 
-def utf16_bytes_to_utf8(data, order):
+def utf16_bytes_to_utf8(data: _Readable, order: Order) -> bytes:
     r"""Converts well-formed UTF-16 in this byte order to UTF-8. A BOM is converted as the character U+FEFF.
 
     Raises:
@@ -1073,7 +1162,7 @@ def utf16_bytes_to_utf8(data, order):
     return _utf16_bytes_to_utf8.write(data, length, needed, order)
 
 
-def utf16_bytes_to_utf8_lossy(data, order, policy=Lossy.EACH, after_fault=False):
+def utf16_bytes_to_utf8_lossy(data: _Readable, order: Order, policy: Lossy = Lossy.EACH, after_fault: bool = False) -> bytes:
     r"""Converts the whole units of UTF-16 in this byte order to UTF-8, and replaces ill-formed units by the policy.
     `after_fault` says whether the unit before the bytes is ill-formed, so that a run of ill-formed units may cross
     chunks. An odd last byte is ignored, and a BOM is converted as the character U+FEFF. README.md shows how to read a
@@ -1092,7 +1181,7 @@ def utf16_bytes_to_utf8_lossy(data, order, policy=Lossy.EACH, after_fault=False)
     return _utf16_bytes_to_utf8_lossy.lossy(data, Order(order), Lossy(policy), bool(after_fault))
 
 
-def utf8_fault_count(text):
+def utf8_fault_count(text: _Readable) -> int:
     r"""Returns the number of ill-formed sequences: maximal subparts, as utf8_to_utf16_lossy replaces them.
 
     Raises:
@@ -1104,7 +1193,7 @@ def utf8_fault_count(text):
     return _fault_count8(*_elements(text, 1))
 
 
-def utf16_fault_count(units):
+def utf16_fault_count(units: _Readable) -> int:
     r"""Returns the number of ill-formed units.
 
     Raises:
@@ -1117,7 +1206,7 @@ def utf16_fault_count(units):
     return _fault_count16(*_elements(units, 2))
 
 
-def utf32_fault_count(units):
+def utf32_fault_count(units: _Readable) -> int:
     """Returns the number of units that are not scalar values.
 
     Raises:
@@ -1127,7 +1216,7 @@ def utf32_fault_count(units):
     return _fault_count32(*_elements(units, 4))
 
 
-def utf8_is_ascii(text):
+def utf8_is_ascii(text: _Readable) -> bool:
     """Returns whether all bytes are ASCII. An empty text is.
 
     Raises:
@@ -1139,7 +1228,7 @@ def utf8_is_ascii(text):
     return _is_ascii8(*_elements(text, 1)) != 0
 
 
-def utf16_is_ascii(units):
+def utf16_is_ascii(units: _Readable) -> bool:
     """Returns whether all units are ASCII. An empty text is.
 
     Raises:
@@ -1152,7 +1241,7 @@ def utf16_is_ascii(units):
     return _is_ascii16(*_elements(units, 2)) != 0
 
 
-def utf32_is_ascii(units):
+def utf32_is_ascii(units: _Readable) -> bool:
     """Returns whether all units are ASCII. An empty text is.
 
     Raises:
@@ -1162,7 +1251,7 @@ def utf32_is_ascii(units):
     return _is_ascii32(*_elements(units, 4)) != 0
 
 
-def utf16_floor_char_boundary(units, offset):
+def utf16_floor_char_boundary(units: _Readable, offset: SupportsIndex) -> int:
     r"""Returns the greatest offset, in units, that is at most `offset` and at most the length, and that does not split
     a surrogate pair.
 
@@ -1180,7 +1269,7 @@ def utf16_floor_char_boundary(units, offset):
     return _floor_char_boundary16(data, length, min(offset, length))
 
 
-def utf16_to_utf32_lossy(units, policy=Lossy.EACH):
+def utf16_to_utf32_lossy(units: _Readable, policy: Lossy = Lossy.EACH) -> bytes:
     r"""Converts any UTF-16 to UTF-32, and replaces ill-formed units by the policy.
 
     Raises:
@@ -1193,7 +1282,7 @@ def utf16_to_utf32_lossy(units, policy=Lossy.EACH):
     return _utf16_to_utf32_lossy.lossy(units, Lossy(policy))
 
 
-def utf32_to_utf16_lossy(units, policy=Lossy.EACH):
+def utf32_to_utf16_lossy(units: _Readable, policy: Lossy = Lossy.EACH) -> bytes:
     """Converts any UTF-32 to UTF-16, and replaces units that are not scalar values by the policy.
 
     Raises:
@@ -1207,7 +1296,7 @@ def utf32_to_utf16_lossy(units, policy=Lossy.EACH):
     return _utf32_to_utf16_lossy.lossy(units, Lossy(policy))
 
 
-def wtf8_first_fault(text):
+def wtf8_first_fault(text: _Readable) -> Optional[int]:
     r"""Returns the offset, in bytes, of the first fault of WTF-8, or None if there is none: an ill-formed sequence of
     UTF-8 that is no surrogate, or the second half of a surrogate pair whose halves are written apart.
 
@@ -1222,7 +1311,7 @@ def wtf8_first_fault(text):
     return _offset(_wtf8_first_fault, text, 1)
 
 
-def utf16_to_wtf8(units):
+def utf16_to_wtf8(units: _Readable) -> bytes:
     r"""Converts any UTF-16 to WTF-8, which keeps each unit.
 
     Raises:
@@ -1235,7 +1324,7 @@ def utf16_to_wtf8(units):
     return _utf16_to_wtf8.lossy(units)
 
 
-def wtf8_to_utf16(text):
+def wtf8_to_utf16(text: _Readable) -> bytes:
     r"""Converts WTF-8 to the units of UTF-16 that it was made of, well formed or not.
 
     Raises:
@@ -1248,19 +1337,19 @@ def wtf8_to_utf16(text):
     return _wtf8_to_utf16.strict(text, _wtf8_first_fault)
 
 
-def _from_bytes(conversion, data, order):
+def _from_bytes(conversion: _Conversion, data: _Readable, order: Order) -> bytes:
     data, length = _elements(data, 1)
     if length % conversion.result_width:
         raise ValueError("an incomplete unit is at the end")
     return conversion.write(data, length, length // conversion.result_width, Order(order))
 
 
-def _to_bytes(conversion, units, order):
+def _to_bytes(conversion: _Conversion, units: _Readable, order: Order) -> bytes:
     data, length = _elements(units, conversion.width)
     return conversion.write(data, length, length * conversion.width, Order(order))
 
 
-def utf16_from_bytes(data, order):
+def utf16_from_bytes(data: _Readable, order: Order) -> bytes:
     r"""Returns the units of UTF-16 in this byte order, well formed or not, in the order of the machine.
 
     Raises:
@@ -1273,7 +1362,7 @@ def utf16_from_bytes(data, order):
     return _from_bytes(_utf16_from_bytes, data, order)
 
 
-def utf32_from_bytes(data, order):
+def utf32_from_bytes(data: _Readable, order: Order) -> bytes:
     r"""Returns the units of UTF-32 in this byte order, of any value, in the order of the machine.
 
     Raises:
@@ -1286,7 +1375,7 @@ def utf32_from_bytes(data, order):
     return _from_bytes(_utf32_from_bytes, data, order)
 
 
-def utf16_to_bytes(units, order):
+def utf16_to_bytes(units: _Readable, order: Order) -> bytes:
     r"""Returns the bytes of units of UTF-16 in this byte order. The units may have any values.
 
     Raises:
@@ -1299,7 +1388,7 @@ def utf16_to_bytes(units, order):
     return _to_bytes(_utf16_to_bytes, units, order)
 
 
-def utf32_to_bytes(units, order):
+def utf32_to_bytes(units: _Readable, order: Order) -> bytes:
     r"""Returns the bytes of units of UTF-32 in this byte order. The units may have any values.
 
     Raises:
@@ -1312,7 +1401,7 @@ def utf32_to_bytes(units, order):
     return _to_bytes(_utf32_to_bytes, units, order)
 
 
-def utf16_swap_bytes(units):
+def utf16_swap_bytes(units: _Readable) -> bytes:
     r"""Copies UTF-16, and reverses the order of the bytes in each unit.
 
     Raises:
@@ -1325,7 +1414,7 @@ def utf16_swap_bytes(units):
     return _utf16_swap_bytes.lossy(units)
 
 
-def utf32_swap_bytes(units):
+def utf32_swap_bytes(units: _Readable) -> bytes:
     r"""Copies UTF-32, and reverses the order of the bytes in each unit.
 
     Raises:
@@ -1338,7 +1427,7 @@ def utf32_swap_bytes(units):
     return _utf32_swap_bytes.lossy(units)
 
 
-def _repair_in_place(call, buffer, width):
+def _repair_in_place(call: _Call, buffer: _Writable, width: int) -> int:
     with memoryview(buffer) as view:
         if view.readonly or not view.c_contiguous or not _is_read_as(width, view):
             raise TypeError(f"a writable buffer of bytes or of units of {width} bytes, one after another, is required")
@@ -1350,7 +1439,7 @@ def _repair_in_place(call, buffer, width):
         return call(ctypes.cast(space, ctypes.c_char_p), view.nbytes // width)
 
 
-def utf16_repair_in_place(buffer):
+def utf16_repair_in_place(buffer: _Writable) -> int:
     r"""Replaces each ill-formed unit of UTF-16 by U+FFFD in a writable buffer, such as a bytearray, and returns how
     many units were replaced.
 
@@ -1365,7 +1454,7 @@ def utf16_repair_in_place(buffer):
     return _repair_in_place(_repair_in_place16, buffer, 2)
 
 
-def utf32_repair_in_place(buffer):
+def utf32_repair_in_place(buffer: _Writable) -> int:
     """Replaces each unit of UTF-32 that is not a scalar value by U+FFFD in a writable buffer, such as an array, and
     returns how many units were replaced.
 
@@ -1409,17 +1498,17 @@ class Converter:
     (3, 1)
     """
 
-    def __init__(self, source, target, policy=None, bom=False):
+    def __init__(self, source: Scheme, target: Scheme, policy: Optional[Lossy] = None, bom: bool = False) -> None:
         self._start = Scheme(source), Scheme(target), _STRICT if policy is None else Lossy(policy), bool(bom)
         self.reset()
 
-    def reset(self):
+    def reset(self) -> None:
         """Begins a new text."""
         self._state = _State()
         if not _convert_start(ctypes.byref(self._state), *self._start):
             raise SystemError("the library of widestring has other numbers of schemes")
 
-    def convert(self, data, final=False):
+    def convert(self, data: _Readable, final: bool = False) -> builtins.bytes:
         r"""Converts the next bytes of the text, which may end anywhere, and returns what is written for the characters
         that they complete. With `final` these are the last ones.
 
@@ -1437,7 +1526,7 @@ class Converter:
             raise Fault(self._state.bytes)
         return b"".join(texts)
 
-    def _push(self, piece, is_last):
+    def _push(self, piece: builtins.bytes, is_last: bool) -> builtins.bytes:
         """Converts a few bytes."""
         state, texts = self._state, []
         while True:
@@ -1453,31 +1542,31 @@ class Converter:
             piece = piece[state.read :]
 
     @property
-    def bytes(self):
+    def bytes(self) -> int:
         """How many bytes of the text were converted."""
-        return self._state.bytes
+        return int(self._state.bytes)
 
     @property
-    def items(self):
+    def items(self) -> int:
         """How many items, characters and faults, these bytes are. A BOM that is dropped is none."""
-        return self._state.items
+        return int(self._state.items)
 
     @property
-    def faults(self):
+    def faults(self) -> int:
         """How many of the items are ill-formed sequences, which the policy replaced."""
-        return self._state.faults
+        return int(self._state.faults)
 
     @property
-    def kept(self):
+    def kept(self) -> int:
         """How many bytes were given that are no item so far, at most four."""
-        return self._state.kept
+        return int(self._state.kept)
 
 
 # The policies that stand for the handlers of errors of Python's codecs.
 _HANDLERS = {"strict": None, "replace": Lossy.EACH, "ignore": Lossy.SKIP}
 
 
-def _policy_of(errors):
+def _policy_of(errors: Union[str, Lossy]) -> Optional[Lossy]:
     """Returns the policy that a handler of errors, or one of Lossy, stands for."""
     if isinstance(errors, Lossy):
         return errors
@@ -1497,24 +1586,24 @@ class IncrementalDecoder(codecs.IncrementalDecoder):
     ('', '😀')
     """
 
-    def __init__(self, scheme, errors="strict"):
-        super().__init__(errors)
+    def __init__(self, scheme: Scheme, errors: Union[str, Lossy] = "strict") -> None:
+        super().__init__(errors)  # type: ignore[arg-type]
         self._is_wtf8 = Scheme(scheme) == Scheme.WTF8
         self._converter = Converter(scheme, Scheme.WTF8 if self._is_wtf8 else Scheme.UTF8, _policy_of(errors))
 
-    def decode(self, input, final=False):
+    def decode(self, input: _Readable, final: bool = False) -> str:
         """Returns the characters that the next bytes complete."""
         return self._converter.convert(input, final).decode("utf-8", "surrogatepass" if self._is_wtf8 else "strict")
 
-    def reset(self):
+    def reset(self) -> None:
         """Begins a new text."""
         self._converter.reset()
 
-    def getstate(self):
+    def getstate(self) -> Tuple[bytes, int]:
         """Returns the state, which setstate sets again: nothing that was read has to be given again."""
         return b"", int.from_bytes(bytes(self._converter._state), sys.byteorder)
 
-    def setstate(self, state):
+    def setstate(self, state: Tuple[bytes, int]) -> None:
         """Sets a state that getstate returned, or that of the beginning, which is (b"", 0)."""
         if state[1] == 0:
             self.reset()
@@ -1534,14 +1623,14 @@ class IncrementalEncoder(codecs.IncrementalEncoder):
     (b'\xfe\xff\x00H', b'\x00i')
     """
 
-    def __init__(self, scheme, errors="strict", bom=False):
-        super().__init__(errors)
+    def __init__(self, scheme: Scheme, errors: Union[str, Lossy] = "strict", bom: bool = False) -> None:
+        super().__init__(errors)  # type: ignore[arg-type]
         self._converter = Converter(Scheme.WTF8, scheme, _policy_of(errors), bom)
 
-    def encode(self, input, final=False):
+    def encode(self, input: str, final: bool = False) -> bytes:
         """Returns the bytes of the next characters."""
         return self._converter.convert(input.encode("utf-8", "surrogatepass"), final)
 
-    def reset(self):
+    def reset(self) -> None:
         """Begins a new text."""
         self._converter.reset()
