@@ -2,14 +2,13 @@
 //! `lib`, or else one of this crate's version that pkg-config finds, or else the one of this repository. PKG_CONFIG names
 //! the program that is called.
 //!
-//! Documentation links nothing, so a missing library is a warning here. The crate itself then does not compile, unless
-//! it is documented or DOCS_RS is set.
+//! `cargo check` and documentation link nothing, so a missing library is a warning here. rustc rejects it where it is
+//! linked.
 use std::env;
 use std::path::{absolute, Path, PathBuf};
 use std::process::{exit, Command};
 
-const WATCHED: [&str; 6] = [
-    "DOCS_RS",
+const WATCHED: [&str; 5] = [
     "WIDESTRING_LIB_DIR",
     "PKG_CONFIG",
     "PKG_CONFIG_PATH",
@@ -86,8 +85,8 @@ fn name_in(folder: &Path) -> Option<&'static str> {
     NAMES.into_iter().find(|name| file(folder, name).is_file())
 }
 
-/// Warns that no folder has the library, and passes the reason on to `lib.rs`, where it is an error for all but
-/// documentation. It also watches files that do not exist, so the next build looks again.
+/// Warns that no folder has the library, and asks for it all the same, so that rustc reports it as missing if it compiles
+/// the crate. It also watches files that do not exist, so the next build looks again.
 fn report_missing(folders: &[PathBuf]) {
     let why = format!("no library of widestring in {folders:?}: set WIDESTRING_LIB_DIR, or run ./prove widestring_c in the repository");
     for folder in folders {
@@ -96,17 +95,13 @@ fn report_missing(folders: &[PathBuf]) {
         }
     }
     println!("cargo:warning={why}");
-    if env::var_os("DOCS_RS").is_none() {
-        println!("cargo:rustc-cfg=widestring_missing");
-        println!("cargo:rustc-env=WIDESTRING_MISSING=widestring-proved: {why}");
-    }
+    println!("cargo:rustc-link-lib=static={}", NAMES[0]);
 }
 
 fn main() {
     for name in WATCHED {
         println!("cargo:rerun-if-env-changed={name}");
     }
-    println!("cargo:rustc-check-cfg=cfg(widestring_missing)");
     check_target();
     let here = PathBuf::from(env::var_os("CARGO_MANIFEST_DIR").expect("cargo's folder"));
     let released = here.join("lib");

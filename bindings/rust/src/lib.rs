@@ -8,9 +8,6 @@
     clippy::missing_safety_doc
 )]
 
-// Documentation links nothing, so it needs no library.
-#[cfg(all(widestring_missing, not(doc)))]
-compile_error!(env!("WIDESTRING_MISSING"));
 
 extern crate alloc;
 
