@@ -1,7 +1,13 @@
-"""What the example `resources` prints and reports, by an independent reader of `.res` files and of executables."""
+#!/usr/bin/env python3
+"""What the example `resources` prints and reports, by an independent reader of `.res` files and of executables.
 
+    bench/example_cases_resources.py --samples     writes the samples that `samples()` describes
+"""
+
+import os
 import re
 import struct
+import sys
 
 USAGE = "usage: resources [--lossy] [--names] [--skipped] FILE..\n"
 EMPTY = struct.pack("<8I", 0, 32, 0xFFFF, 0xFFFF, 0, 0, 0, 0)
@@ -914,6 +920,33 @@ INPUTS = [
 ]
 
 
+def samples():
+    """Returns the files of the example's samples by their names: a resource of each kind that has texts and two that have
+    none, in a `.res` file and in an executable."""
+    kinds = [
+        (STRINGS, 2, 0x409, strings("", "Open", "Save")),
+        (MENU, "MAIN", 0x407, menu((0x10, 0, "&Datei"), (0, 11, "Ö&ffnen"), (0x80, 12, "B&eenden"), (0x90, 0, "&Hilfe"), (0x80, 13, "&Info"))),
+        (MENU, 8, 0x409, menu_ex((1, 1, "&File"), (0x80, 11, "&Open"), (0x80, 12, "&Help"))),
+        (DIALOG, 9, 0x409, dialog("About", (1, 0x80, "OK"), (2, 0x82, "Deep sea 🌊"), font="MS Shell Dlg")),
+        (DIALOG, 10, 0x409, dialog_ex("Find", (1, 0x80, "Next"), font="MS Shell Dlg")),
+        (MESSAGES, 1, 0x409, messages((1, "Done\r\n", "No such file: %1\r\n"), (0x40000001, b"caf\xe9\r\n"))),
+        (VERSION, 1, 0x409, version(("CompanyName", "Deep sea"), ("FileVersion", "1.0"))),
+        (3, 1, 0, bytes(8)),
+        (24, 1, 0, b"<assembly/>"),
+    ]
+    return {
+        "texts.res": file(*[resource(kind, name, data, language) for kind, name, language, data in kinds]),
+        "texts.exe": executable(*kinds),
+    }
+
+
+def write_samples():
+    data = f"{os.path.dirname(os.path.dirname(os.path.realpath(__file__)))}/crates/example_resources/data"
+    for name, content in samples().items():
+        with open(f"{data}/{name}", "wb") as written:
+            written.write(content)
+
+
 # Random inputs.
 
 VALID = ["", "a", "Zoë", "深", "🌊", "\0", '"', "\\", "\n", "\ufeff", "\u200b", "\ufffd", "\u0301", "\uffff", "\x85"]
@@ -1040,3 +1073,9 @@ def cases():
             words.pop(0)
         printed, reported, status = answer(names, [file if word == "{}" else UNREADABLE for word in words])
         yield "", arguments, file, printed.encode(), reported.encode(), status
+
+
+if __name__ == "__main__":
+    if sys.argv[1:] != ["--samples"]:
+        sys.exit("usage: bench/example_cases_resources.py --samples")
+    write_samples()

@@ -1,6 +1,6 @@
 //! A place in the contents of a resource, whose fields are read one after the other.
 
-ghost use Rattle.std.specs.Prelude.{◌≡◌, ◌+◌, ◌-◌, ◌%◌, ◌++◌, ◌≤◌, ◌↔◌, IfSome, IfNone, IsSome, OnSome, drop, length, take};
+ghost use Rattle.std.specs.Prelude.{◌≡◌, ◌+◌, ◌-◌, ◌%◌, ◌++◌, ◌∷◌, ◌≤◌, ◌↔◌, IfSome, IfNone, IsSome, OnSome, drop, length, take};
 ghost use Rattle.std.specs.Int.{from_le_bytes, w16, w32};
 ghost use Rattle.wide_resources.specs.Contents.{IsSuffix};
 
@@ -87,15 +87,17 @@ impl<'a> Cursor<'a> {
     /// Reads a text that ends in a NUL, and returns its units as bytes, or `None` if it has no end.
     pub fn text(&mut self) -> Option<&'a [u8]>
         ensures rest { IsSuffix self.new.rest.now self.old.rest.now }
-        ensures read { IfSome result (λ text. text.now ≡ take (length text.now) self.old.rest.now) }
-        ensures end { IfSome result (λ text. length text.now + 2 + length self.new.rest.now ≡ length self.old.rest.now) }
+        ensures read { IfSome result (λ text. self.old.rest.now ≡ text.now ++ 0 ∷ 0 ∷ self.new.rest.now) }
         ensures len { self.new.len ≡ self.old.len }
         ensures none { IfNone result (self.new ≡ self.old) }
     {
         let units = self.rest.as_chunks::<2>().0;
         let len = units.iter().position(|unit| *unit == [0, 0])? * 2;
         let (text, rest) = self.rest.split_at(len);
-        self.rest = &rest[2..];
+        let [0, 0, rest @ ..] = rest else {
+            return None;
+        };
+        self.rest = rest;
         Some(text)
     }
 

@@ -121,11 +121,13 @@ fn other_format(file: &[u8]) -> Format {
 /// be read.
 pub fn format_of(file: &[u8]) -> Format
     ensures executable { take 2 file.now ≡ 0x4d ∷ 0x5a ∷ [] → result ≡ Executable }
+    ensures resources { take 16 file.now ≡ 0 ∷ 0 ∷ 0 ∷ 0 ∷ 0x20 ∷ 0 ∷ 0 ∷ 0 ∷ 0xff ∷ 0xff ∷ 0 ∷ 0 ∷ 0xff ∷ 0xff ∷ 0 ∷ 0 ∷ [] → result ≡ Resources }
 {
     if file.starts_with(b"MZ") {
         return Format::Executable;
     }
-    if EMPTY.starts_with(&file[..file.len().min(EMPTY.len())]) {
+    // A file that is shorter is cut off.
+    if file.starts_with(EMPTY) || EMPTY.starts_with(file) {
         return Format::Resources;
     }
     if let Some(what) = format_by_mark(file) {

@@ -1,6 +1,9 @@
 //! Menus, of both formats: items with their numbers, one after the other. The items of a submenu follow the item that opens
 //! it, and the last item of each menu says so.
 
+ghost use Rattle.std.specs.Prelude.{◌≡◌, ◌<◌, ◌≤◌, ◌-◌, ◌↔◌, IfSome, IsFalse, IsTrue, bit_and, take};
+ghost use Rattle.std.specs.Int.{from_le_bytes, w16};
+
 use crate::cursor::Cursor;
 use crate::texts::{Found, Text, TextDamage};
 use wide_error::OutOfMemory;
@@ -23,7 +26,10 @@ struct MenuItem<'a> {
 }
 
 // Reads an item of the first format.
-fn item<'a>(cursor: &mut Cursor<'a>) -> Option<MenuItem<'a>> {
+fn item<'a>(cursor: &mut Cursor<'a>) -> Option<MenuItem<'a>>
+    ensures opens { IfSome result (λ item. IsFalse item.opens ↔ (bit_and (from_le_bytes w16 (take 2 cursor.old.rest.now)) 0x10 ≡ 0)) }
+    ensures ends { IfSome result (λ item. IsFalse item.ends ↔ (bit_and (from_le_bytes w16 (take 2 cursor.old.rest.now)) 0x80 ≡ 0)) }
+{
     let options = cursor.unit()?;
     let opens = options & OPENS != 0;
     let id = if opens { 0 } else { u32::from(cursor.unit()?) };
@@ -55,11 +61,16 @@ fn item_ex<'a>(cursor: &mut Cursor<'a>) -> Option<MenuItem<'a>> {
 
 // Returns how many menus are open after an item. A submenu in the last item of a menu takes that menu's place, since both
 // end with the same item.
-fn open_after(open: usize, item: &MenuItem<'_>) -> usize {
+fn levels_after(levels: usize, item: &MenuItem<'_>) -> usize
+    ensures same { item.now.opens ≡ item.now.ends → result ≡ levels }
+    ensures last { IsFalse item.now.opens → IsTrue item.now.ends → result ≡ levels - 1 }
+    ensures submenu { IsTrue item.now.opens → levels ≤ result }
+    ensures one_more { IsTrue item.now.opens → IsFalse item.now.ends → 0 < result }
+{
     match (item.opens, item.ends) {
-        (true, false) => open.saturating_add(1),
-        (false, true) => open.saturating_sub(1),
-        _ => open,
+        (true, false) => levels.saturating_add(1),
+        (false, true) => levels.saturating_sub(1),
+        _ => levels,
     }
 }
 
@@ -69,7 +80,7 @@ fn read_items<'a>(
     is_extended: bool,
     found: &mut Found<'a>,
 ) -> Result<bool, OutOfMemory> {
-    let mut open = 1;
+    let mut levels = 1;
     for _ in 0..cursor.rest.len() {
         let read = if is_extended {
             item_ex(cursor)
@@ -80,8 +91,8 @@ fn read_items<'a>(
             return Ok(false);
         };
         found.add(item.text)?;
-        open = open_after(open, &item);
-        if open == 0 {
+        levels = levels_after(levels, &item);
+        if levels == 0 {
             return Ok(true);
         }
     }

@@ -1,6 +1,7 @@
 //! Message tables: blocks of messages with consecutive numbers.
 
-ghost use Rattle.std.specs.Prelude.{◌≡◌, ◌≤◌, ◌↔◌, IsNone, Some};
+ghost use Rattle.std.specs.Prelude.{◌≡◌, ◌+◌, ◌<◌, ◌≤◌, ◌↔◌, IfSome, IsNone, OnOk, Some, drop, length, take, vec_len};
+ghost use Rattle.std.specs.Int.{from_le_bytes, w16};
 ghost use Rattle.wide_resources.specs.declared.texts.TextForm.TheVariants.{CodePage, Units, Utf8};
 
 use crate::cursor::Cursor;
@@ -15,7 +16,9 @@ const BLOCK_LEN: usize = 12;
 const FIELDS_LEN: usize = 4;
 
 // Returns a text without the zeros that fill its last bytes.
-fn without_end(bytes: &[u8], form: TextForm) -> &[u8] {
+fn without_end(bytes: &[u8], form: TextForm) -> &[u8]
+    ensures { result.now ≡ take (length result.now) bytes.now }
+{
     let zeros = bytes.iter().rev().take_while(|byte| **byte == 0).count();
     let len = bytes.len().saturating_sub(zeros);
     // The last character of a text in units may have a zero byte.
@@ -54,7 +57,12 @@ struct Message<'a> {
 }
 
 // Reads a message, which has at least its fields.
-fn message_at(contents: &[u8], at: usize) -> Option<Message<'_>> {
+fn message_at(contents: &[u8], at: usize) -> Option<Message<'_>>
+    ensures flags { IfSome result (λ message. message.flags ≡ from_le_bytes w16 (take 2 (drop (at + 2) contents.now))) }
+    ensures end { IfSome result (λ message. message.end ≡ at + from_le_bytes w16 (take 2 (drop at contents.now))) }
+    ensures within { IfSome result (λ message. message.end ≤ length contents.now) }
+    ensures bytes { IfSome result (λ message. message.end ≡ at + 4 + length message.bytes.now) }
+{
     let len = usize::from(unit_at(contents, at)?);
     let flags = unit_at(contents, at.saturating_add(2))?;
     let message = part_of(contents, at, len)?;
@@ -86,7 +94,10 @@ fn add_message<'a>(
     at: usize,
     id: u32,
     found: &mut Found<'a>,
-) -> Result<(), OutOfMemory> {
+) -> Result<(), OutOfMemory>
+    ensures text { message.now.flags < 3 → OnOk result (vec_len found.new.texts ≡ vec_len found.old.texts + 1) }
+    ensures noted { 3 ≤ message.now.flags → OnOk result (0 < vec_len found.new.damages) }
+{
     let Some(form) = form_of(message.flags) else {
         return found.note(TextDamage::Flags(at, message.flags));
     };

@@ -1,5 +1,7 @@
 //! Version information: a tree of nodes, in which strings have names.
 
+ghost use Rattle.std.specs.Prelude.{◌≡◌, ◌≤◌, ◌*◌, All, IsTrue, drop, length, take};
+
 use crate::cursor::Cursor;
 use crate::texts::{Found, Text, TextDamage, TextForm, is_padding};
 use wide_error::OutOfMemory;
@@ -100,7 +102,9 @@ impl<'a> Node<'a> {
 }
 
 // Returns a text without the NUL at its end, and what follows that.
-fn up_to_nul(bytes: &[u8]) -> &[u8] {
+fn up_to_nul(bytes: &[u8]) -> &[u8]
+    ensures { result.now ≡ take (length result.now) bytes.now }
+{
     let units = bytes.as_chunks::<2>().0;
     let len = units.iter().position(|unit| *unit == [0, 0]);
     let len = len.unwrap_or(units.len()).saturating_mul(2);
@@ -109,7 +113,11 @@ fn up_to_nul(bytes: &[u8]) -> &[u8] {
 
 // Returns whether a value may have this length: that of its text in units or, as some compilers write it, in bytes, with
 // zeros behind it or without them. Nothing but zeros may be behind it.
-fn may_have_len(value: &[u8], text: &[u8], len: u16) -> bool {
+fn may_have_len(value: &[u8], text: &[u8], len: u16) -> bool
+    ensures least { IsTrue result → length text.now ≤ 2 * len }
+    ensures most { IsTrue result → len ≤ length value.now }
+    ensures behind { IsTrue result → All (λ byte. byte ≡ 0) (drop (length text.now) value.now) }
+{
     let (len, least) = (usize::from(len), text.len());
     let behind = value.get(least..).unwrap_or_default();
     let are_zero = behind.iter().all(|byte| *byte == 0);
