@@ -1,7 +1,7 @@
 //! Menus, of both formats: items with their numbers, one after the other. The items of a submenu follow the item that opens
 //! it, and the last item of each menu says so.
 
-ghost use Rattle.std.specs.Prelude.{◌≡◌, ◌<◌, ◌≤◌, ◌-◌, ◌↔◌, IfSome, IsFalse, IsTrue, bit_and, take};
+ghost use Rattle.std.specs.Prelude.{◌≡◌, ◌<◌, ◌≤◌, ◌-◌, ◌↔◌, IfSome, IsFalse, IsTrue, OnOk, bit_and, take, vec_len};
 ghost use Rattle.std.specs.Int.{from_le_bytes, w16};
 
 use crate::cursor::Cursor;
@@ -100,7 +100,9 @@ fn read_items<'a>(
 }
 
 // Passes the fields before the items, and returns the version of the format.
-fn read_version(cursor: &mut Cursor<'_>) -> Option<u16> {
+fn read_version(cursor: &mut Cursor<'_>) -> Option<u16>
+    ensures { IfSome result (λ version. version ≡ from_le_bytes w16 (take 2 cursor.old.rest.now)) }
+{
     let version = cursor.unit()?;
     let skipped = cursor.unit()?;
     if version < 2 {
@@ -110,7 +112,9 @@ fn read_version(cursor: &mut Cursor<'_>) -> Option<u16> {
 }
 
 /// Adds the texts of a menu that are not empty.
-pub fn read_menu<'a>(contents: &'a [u8], found: &mut Found<'a>) -> Result<(), OutOfMemory> {
+pub fn read_menu<'a>(contents: &'a [u8], found: &mut Found<'a>) -> Result<(), OutOfMemory>
+    ensures version { 2 ≤ from_le_bytes w16 (take 2 contents.now) → OnOk result (0 < vec_len found.new.damages) }
+{
     let mut cursor = Cursor::new(contents);
     let is_whole = match read_version(&mut cursor) {
         Some(version) if version > 1 => return found.note(TextDamage::Format(version)),

@@ -1,7 +1,7 @@
 //! Message tables: blocks of messages with consecutive numbers.
 
-ghost use Rattle.std.specs.Prelude.{◌≡◌, ◌+◌, ◌<◌, ◌≤◌, ◌↔◌, IfSome, IsNone, OnOk, Some, drop, length, take, vec_len};
-ghost use Rattle.std.specs.Int.{from_le_bytes, w16};
+ghost use Rattle.std.specs.Prelude.{◌≡◌, ◌+◌, ◌<◌, ◌≤◌, ◌↔◌, IfOk, IfSome, IsNone, IsSome, OnOk, Some, drop, length, take, vec_len};
+ghost use Rattle.std.specs.Int.{from_le_bytes, w16, w32};
 ghost use Rattle.wide_resources.specs.declared.texts.TextForm.TheVariants.{CodePage, Units, Utf8};
 
 use crate::cursor::Cursor;
@@ -39,12 +39,16 @@ struct Block {
 }
 
 // Reads the fields of a block.
-fn block_at(contents: &[u8], at: usize) -> Option<Block> {
-    let fields = part_of(contents, at, BLOCK_LEN)?;
+fn block_at(contents: &[u8], at: usize) -> Option<Block>
+    ensures low { IfSome result (λ block. block.low ≡ from_le_bytes w32 (take 4 (drop at contents.now))) }
+    ensures high { IfSome result (λ block. block.high ≡ from_le_bytes w32 (take 4 (drop (at + 4) contents.now))) }
+    ensures first { IfSome result (λ block. block.at ≡ from_le_bytes w32 (take 4 (drop (at + 8) contents.now))) }
+    ensures found { IsSome result → at + 12 ≤ length contents.now }
+{
     Some(Block {
-        low: size_at(fields, 0)?,
-        high: size_at(fields, 4)?,
-        at: size_at(fields, 8)? as usize,
+        low: size_at(contents, at)?,
+        high: size_at(contents, at.saturating_add(4))?,
+        at: size_at(contents, at.saturating_add(8))? as usize,
     })
 }
 
@@ -160,7 +164,10 @@ fn read_fields<'a>(
     at: usize,
     before: Progress,
     found: &mut Found<'a>,
-) -> Result<Progress, OutOfMemory> {
+) -> Result<Progress, OutOfMemory>
+    ensures cut { length contents.now < at + 12 → IfOk result (λ progress. IsSome progress.damage) }
+    ensures backwards { from_le_bytes w32 (take 4 (drop (at + 4) contents.now)) < from_le_bytes w32 (take 4 (drop at contents.now)) → IfOk result (λ progress. IsSome progress.damage) }
+{
     let Some(block) = block_at(contents, at) else {
         let damage = TextDamage::Cut(at.min(contents.len()));
         return Ok(Progress {
@@ -207,7 +214,9 @@ fn read_blocks<'a>(
 }
 
 /// Adds the messages of a table. Those of two blocks may share bytes; all together are no more than the bytes could hold.
-pub fn read_messages<'a>(contents: &'a [u8], found: &mut Found<'a>) -> Result<(), OutOfMemory> {
+pub fn read_messages<'a>(contents: &'a [u8], found: &mut Found<'a>) -> Result<(), OutOfMemory>
+    ensures cut { length contents.now < 4 → OnOk result (0 < vec_len found.new.damages) }
+{
     let Some(count) = size_at(contents, 0) else {
         return found.note(TextDamage::Cut(contents.len()));
     };

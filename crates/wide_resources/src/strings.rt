@@ -1,5 +1,8 @@
 //! String tables: sixteen strings, each after its length in units.
 
+ghost use Rattle.std.specs.Prelude.{◌≡◌, ◌<◌, ℕ, OnOk, vec_len};
+ghost use Rattle.wide_resources.specs.declared.texts.Name.TheVariants.{Number};
+
 use crate::numbers::unit_at;
 use crate::texts::{Found, Name, Text, TextDamage};
 use wide_error::OutOfMemory;
@@ -29,7 +32,10 @@ pub fn read_strings<'a>(
     name: Name<'a>,
     contents: &'a [u8],
     found: &mut Found<'a>,
-) -> Result<(), OutOfMemory> {
+) -> Result<(), OutOfMemory>
+    ensures zero { name.entry ≡ Number 0 → OnOk result (0 < vec_len found.new.damages) }
+    ensures least { (block : ℕ) → name.entry ≡ Number block → 4096 < block → OnOk result (0 < vec_len found.new.damages) }
+{
     match name {
         Name::Number(block) if 0 < block && block <= 4096 => {
             read_from((u32::from(block) - 1) * 16, contents, found)

@@ -1,6 +1,8 @@
 //! Version information: a tree of nodes, in which strings have names.
 
-ghost use Rattle.std.specs.Prelude.{◌≡◌, ◌≤◌, ◌*◌, All, IsTrue, drop, length, take};
+ghost use Rattle.std.specs.Prelude.{◌≡◌, ◌<◌, ◌≤◌, ◌*◌, ◌⊎◌, All, IfSome, IsFalse, IsTrue, OnOk, drop, length, take, vec_len};
+ghost use Rattle.std.specs.Int.{from_le_bytes, w16};
+ghost use Rattle.wide_resources.specs.Contents.{IsPadding};
 
 use crate::cursor::Cursor;
 use crate::texts::{Found, Text, TextDamage, TextForm, is_padding};
@@ -33,7 +35,10 @@ struct Node<'a> {
 }
 
 // Reads the fields of a node, whatever its length is.
-fn read_node(nodes: Nodes<'_>) -> Option<Node<'_>> {
+fn read_node(nodes: Nodes<'_>) -> Option<Node<'_>>
+    ensures len { IfSome result (λ node. node.len ≡ from_le_bytes w16 (take 2 nodes.entry.bytes.now)) }
+    ensures cut { IfSome result (λ node. IsFalse node.is_cut → node.len ≤ length nodes.entry.bytes.now) }
+{
     let mut cursor = Cursor::new(nodes.bytes);
     let len = usize::from(cursor.unit()?);
     let value_len = cursor.unit()?;
@@ -203,7 +208,11 @@ fn read_root<'a>(nodes: Nodes<'a>, found: &mut Found<'a>) -> Result<bool, OutOfM
 
 /// Adds the strings of version information that are not empty, by their names. They are read up to the end of the contents,
 /// also if the length of the whole is too small or too great.
-pub fn read_version<'a>(contents: &'a [u8], found: &mut Found<'a>) -> Result<(), OutOfMemory> {
+pub fn read_version<'a>(contents: &'a [u8], found: &mut Found<'a>) -> Result<(), OutOfMemory>
+    // The length of the whole is that of the contents, but for padding, or else there is a damage.
+    ensures behind { OnOk result (IsPadding (drop (from_le_bytes w16 (take 2 contents.now)) contents.now) ⊎ (0 < vec_len found.new.damages)) }
+    ensures cut { OnOk result ((from_le_bytes w16 (take 2 contents.now) ≤ length contents.now) ⊎ (0 < vec_len found.new.damages)) }
+{
     let whole = Nodes {
         at: 0,
         bytes: contents,
