@@ -1,6 +1,6 @@
 //! `.res` files: resources one after the other, each with a header and at a multiple of four bytes.
 
-ghost use Rattle.std.specs.Prelude.{◌≡◌, ◌+◌, ◌++◌, ◌≤◌, [], IfOk, MatchOption, drop, length, take};
+ghost use Rattle.std.specs.Prelude.{◌≡◌, ◌+◌, ◌++◌, ◌≤◌, ◌⊎◌, [], IfOk, MatchOption, drop, length, take};
 ghost use Rattle.std.specs.Int.{from_le_bytes, w32};
 
 use crate::numbers::{size_at, unit_at};
@@ -152,9 +152,11 @@ impl<'a> Iterator for Parts<'a> {
 
     type Item = Part<'a>;
 
-    // A part begins where the previous one ended, and no byte is lost between it and the next ones, up to the end.
+    // A part begins where the previous one ended, and no byte is lost between it and the next ones, up to the end. It holds
+    // its whole resource, unless it is the last part.
     ghost next_gives = { λ old part new. MatchOption part (old.rest.now ≡ []) (λ it.
-        (it.at + length old.rest.now ≡ length old.file.now) × (old.rest.now ≡ it.bytes.now ++ new.rest.now)) };
+        (it.at + length old.rest.now ≡ length old.file.now) × (old.rest.now ≡ it.bytes.now ++ new.rest.now)
+        × IfOk it.resource (λ resource. (new.rest.now ≡ []) ⊎ (resource.header_size + resource.data_size ≤ length it.bytes.now))) };
 
     ghost remaining = { λ s. at_most (length s.rest.now) };
 
