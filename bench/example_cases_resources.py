@@ -1,11 +1,24 @@
-"""What the example `resources` prints and reports, by an independent reader of `.res` files and of executables."""
+#!/usr/bin/env python3
+"""What the example `resources` prints and reports, by an independent reader of `.res` files and of executables.
 
+    bench/example_cases_resources.py --samples     writes the samples that `samples()` describes
+"""
+
+import os
+import re
 import struct
+import sys
 
 USAGE = "usage: resources [--lossy] [--names] [--skipped] FILE..\n"
 EMPTY = struct.pack("<8I", 0, 32, 0xFFFF, 0xFFFF, 0, 0, 0, 0)
 MENU, DIALOG, STRINGS, MESSAGES, VERSION = 4, 5, 6, 11, 16
 WORDS = {MENU: "menu ", DIALOG: "dialog ", STRINGS: "", MESSAGES: "message ", VERSION: "version "}
+TYPES = {
+    1: "cursor", 2: "bitmap", 3: "icon", 4: "menu", 5: "dialog", 6: "string table", 7: "font directory", 8: "font",
+    9: "accelerators", 10: "data", 11: "message table", 12: "cursor group", 14: "icon group", 16: "version",
+    17: "dialog include", 19: "plug and play", 20: "VxD", 21: "animated cursor", 22: "animated icon", 23: "HTML",
+    24: "manifest",
+}
 LANGUAGES = {0x407: "de-DE", 0x409: "en-US", 0x40C: "fr-FR"}
 TERMINAL = {"\n": "\\n", "\r": "\\r", "\t": "\\t", "\0": "\\0"}
 HIDDEN = "\u2028\u2029\u202a\u202b\u202c\u202d\u202e\u2066\u2067\u2068\u2069\ufeff"
@@ -53,7 +66,7 @@ def file(*resources):
 
 
 def menu(*items):
-    """Returns a menu of the first format: items of options, number and text."""
+    """Returns a menu of the first format: items of options, number and text. The option 80 is that of a last item."""
     fields = [struct.pack("<H", options) + (b"" if options & 0x10 else struct.pack("<H", number)) + units(text + "\0") for options, number, text in items]
     return struct.pack("<HH", 0, 0) + b"".join(fields)
 
@@ -91,23 +104,32 @@ def dialog_ex(caption, *controls, font=None, extra=b""):
     return data
 
 
-def messages(*blocks):
-    """Returns a message table: blocks of a first number and messages, which are texts or bytes."""
+def messages(*blocks, flags=None):
+    """Returns a message table: blocks of a first number and messages, which are texts or bytes, with these flags or
+    those of a text and of bytes in a code page."""
     at, fields, entries = 4 + 12 * len(blocks), b"", b""
     for low, *texts in blocks:
         fields += struct.pack("<III", low, low + len(texts) - 1, at + len(entries))
         for text in texts:
             data = padded(text + b"\0" if isinstance(text, bytes) else units(text + "\0"))
-            entries += struct.pack("<HH", len(data) + 4, not isinstance(text, bytes)) + data
+            entries += struct.pack("<HH", len(data) + 4, not isinstance(text, bytes) if flags is None else flags) + data
     return struct.pack("<I", len(blocks)) + fields + entries
 
 
-def node(name, value, *children, is_text=True):
-    """Returns a node of version information with its padding."""
-    data = padded(struct.pack("<HHH", 0, len(value) // (2 if is_text else 1), is_text) + units(name + "\0")) + value
+def node(name, value, *children, is_text=True, length=None, value_length=None):
+    """Returns a node of version information with its padding. Its lengths may be wrong."""
+    if value_length is None:
+        value_length = len(value) // (2 if is_text else 1)
+    data = padded(struct.pack("<HHH", 0, value_length, is_text) + units(name + "\0")) + value
     for child in children:
         data = padded(data) + child
-    return struct.pack("<H", len(data)) + data[2:]
+    return struct.pack("<H", len(data) if length is None else length) + data[2:]
+
+
+def version_of(*texts, **lengths):
+    """Returns version information with one table of these nodes."""
+    strings = node("StringFileInfo", b"", node("040904b0", b"", *map(padded, texts)))
+    return node("VS_VERSION_INFO", bytes(52), strings, is_text=False, **lengths)
 
 
 def version(*pairs, tables=1):
@@ -180,6 +202,10 @@ class Fault(Exception):
     """The damage after which no more is read of a file, or of a resource."""
 
 
+class Faults(list):
+    """What is wrong in the contents of a resource, beside its last damage."""
+
+
 class Fields:
     """The contents of a resource, read from field to field."""
 
@@ -211,6 +237,10 @@ class Fields:
             at += 2
         return self.cut()
 
+    def end(self):
+        """Expects nothing more but zeros that fill a number of 32 bits."""
+        expect_padding(self.data, self.at)
+
     def text_or_number(self):
         if self.data[self.at : self.at + 2] == b"\xff\xff" and self.at + 4 <= len(self.data):
             self.at += 4
@@ -218,12 +248,21 @@ class Fields:
         return self.text()
 
 
+def is_padding(data):
+    return len(data) < 4 and not any(data)
+
+
+def expect_padding(data, at):
+    if not is_padding(data[at:]):
+        raise Fault(f"bytes behind its texts, from its byte {at}: {len(data) - at}")
+
+
 def decoded(data):
     """Returns the text of units, in which an unpaired surrogate is a character of its own."""
     return data[: len(data) // 2 * 2].decode("utf-16-le", "surrogatepass")
 
 
-def texts_of_strings(name, data):
+def texts_of_strings(name, data, faults):
     if isinstance(name, str):
         raise Fault("a string table is named by a number, not by a text")
     if name not in range(1, 4097):
@@ -238,33 +277,47 @@ def texts_of_strings(name, data):
             yield number, decoded(data[at + 2 : end])
         at = end
     if at < len(data):
-        raise Fault(f"bytes behind its strings: {len(data) - at}")
+        raise Fault(f"bytes behind its texts, from its byte {at}: {len(data) - at}")
 
 
-def texts_of_menu(name, data):
+def texts_of_menu(name, data, faults):
     fields = Fields(data)
     kind, skipped = fields.number(2), fields.number(2)
     if kind > 1:
         raise Fault(f"its format has no version {kind}")
     fields.take(skipped)
-    while len(data) - fields.at >= 4 or any(data[fields.at :]):
-        if kind == 0:
-            options = fields.number(2)
-            number = 0 if options & 0x10 else fields.number(2)
-            text = fields.text()
-        else:
-            fields.align()
-            fields.take(8)
-            number, options = fields.number(4), fields.number(2)
-            text = fields.text()
-            if options & 1:
+
+    def items():
+        """Yields the items of a menu up to its last one, each before those of its submenu."""
+        stack = [False]
+        while stack:
+            if kind == 0:
+                options = fields.number(2)
+                is_popup = options & 0x10
+                number = 0 if is_popup else fields.number(2)
+                text = fields.text()
+            else:
                 fields.align()
-                fields.take(4)
-        if text:
+                fields.take(8)
+                number, options = fields.number(4), fields.number(2)
+                is_popup = options & 1
+                text = fields.text()
+                if is_popup:
+                    fields.align()
+                    fields.take(4)
             yield number, decoded(text)
+            if is_popup:
+                stack.append(bool(options & 0x80))
+                continue
+            is_last = bool(options & 0x80)
+            while is_last and stack:
+                is_last = stack.pop()
+
+    yield from ((number, text) for number, text in items() if text)
+    fields.end()
 
 
-def texts_of_dialog(name, data):
+def texts_of_dialog(name, data, faults):
     fields, is_extended = Fields(data), data.startswith(b"\1\0\xff\xff")
     if is_extended:
         fields.take(12)
@@ -290,6 +343,7 @@ def texts_of_dialog(name, data):
         fields.take(fields.number(2))
         if text:
             yield number, decoded(text)
+    fields.end()
 
 
 def without_end(data, is_wide):
@@ -297,60 +351,151 @@ def without_end(data, is_wide):
     return data[: len(stripped) + len(stripped) % 2] if is_wide else stripped
 
 
-def texts_of_messages(name, data):
+def text_of_message(data, flags, at, faults):
+    """Returns the text of a message, in which a wrong byte of UTF-8 is a list."""
+    text = without_end(data, flags == 1)
+    if flags == 0:
+        return "".join(bytes([byte]).decode("cp1252", "ignore") or chr(byte) for byte in text)
+    if flags == 2:
+        return text
+    if len(text) % 2:
+        faults.append(f"the message at its byte {at} ends in half a unit")
+    return decoded(text)
+
+
+def texts_of_messages(name, data, faults):
     if len(data) < 4:
         raise Fault(f"its contents are cut off at their byte {len(data)}")
-    left = len(data) // 4
+    left, end = len(data) // 4, 4
     for block in range(int.from_bytes(data[:4], "little")):
         start = 4 + 12 * block
         if start + 12 > len(data):
             raise Fault(f"its contents are cut off at their byte {min(start, len(data))}")
+        end = max(end, start + 12)
         low, high, at = struct.unpack_from("<III", data, start)
+        if low > high:
+            faults.append(f"the block at its byte {start} begins with message {low} and ends with {high}")
         for number in range(low, high + 1):
             if left == 0:
                 raise Fault("it has fewer messages than it says")
             length = int.from_bytes(data[at : at + 2], "little")
             if at + 4 > len(data) or length < 4 or at + length > len(data):
-                raise Fault(f"its contents are cut off at their byte {min(at, len(data))}")
-            is_wide = data[at + 2] & 1 == 1
-            text = without_end(data[at + 4 : at + length], is_wide)
-            yield number, decoded(text) if is_wide else "".join(bytes([byte]).decode("cp1252", "ignore") or chr(byte) for byte in text)
+                faults.append(f"its contents are cut off at their byte {min(at, len(data))}")
+                break
+            flags = int.from_bytes(data[at + 2 : at + 4], "little")
+            if flags > 2:
+                faults.append(f"the message at its byte {at} has unknown flags {flags:04X}")
+            else:
+                yield number, text_of_message(data[at + 4 : at + length], flags, at, faults)
             left -= 1
             at += length
+            end = max(end, at)
+    if not faults:
+        expect_padding(data, end)
 
 
-def nodes_in(data, whole):
-    """Yields the name, the value and the children of each node."""
-    while data:
-        length = int.from_bytes(data[:2], "little")
-        if len(data) < 2 or length < 6 or length > len(data):
-            raise Fault(f"its contents are cut off at their byte {len(whole)}")
-        fields = Fields(data[:length])
-        fields.cut = lambda: nodes_in(b"\0", whole).__next__()
-        fields.take(2)
-        size, is_text = fields.number(2), fields.number(2) == 1
-        name = fields.text()
-        fields.align()
-        value = fields.take(min(size * 2 if is_text else size, length - fields.at))
-        fields.align()
-        yield decoded(name), value, data[fields.at : length]
-        data = data[length + -length % 4 :]
+class Node:
+    """A node of version information, whose bytes begin at `at` and end before `end`."""
+
+    def __init__(self, data, at, end):
+        self.length, self.value_length, kind = (int.from_bytes(data[at + offset : at + offset + 2], "little") for offset in (0, 2, 4))
+        fields = Fields(data[:end])
+        fields.at = at
+        fields.take(6)
+        self.name = decoded(fields.text())
+        self.value_at = min(fields.at + -(fields.at - at) % 4, end)
+        self.is_text, self.data, self.end = kind == 1, data, end
+
+    def children(self, size, faults):
+        """Yields the nodes behind a value of so many bytes; at last, None if one of them is damaged."""
+        if self.value_at + size > self.end:
+            faults.append(f"the value at its byte {self.value_at} does not have the length {self.value_length}")
+        at = self.value_at + size
+        at += -at % 4
+        while not is_padding(self.data[at : self.end]):
+            length = int.from_bytes(self.data[at : at + 2], "little")
+            try:
+                child = Node(self.data, at, min(at + length, self.end)) if at + 2 <= self.end and length >= 6 else None
+            except Fault:
+                child = None
+            if child is None:
+                yield None
+                return
+            child.is_cut = at + length > self.end
+            yield child
+            if child.is_cut:
+                yield None
+            at += length + -length % 4
+
+    def nodes(self, faults):
+        return self.children(self.value_length * 2 if self.is_text else self.value_length, faults)
 
 
-def texts_of_version(name, data):
-    root = next(nodes_in(data, data), None)
-    if root is None:
+def texts_of_version(name, data, faults):
+    root, is_whole = Node(data, 0, len(data)), True
+    for block in root.children(root.value_length, faults):
+        is_whole &= block is not None
+        for table in block.nodes(faults) if block and block.name == "StringFileInfo" else ():
+            is_whole &= table is not None
+            for string in table.nodes(faults) if table else ():
+                if string is None or string.is_cut:
+                    is_whole = False
+                    break
+                value = data[string.value_at : string.end]
+                text = decoded(value).split("\0")[0]
+                if text:
+                    yield string.name, text
+                behind = value[len(units(text)) :]
+                lengths = range(len(units(text)), len(value) + 1)
+                is_length = 2 * string.value_length in lengths or string.value_length in lengths and string.value_length % 2 == 0
+                if any(behind) or not is_length:
+                    faults.append(f"the value at its byte {string.value_at} does not have the length {string.value_length}")
+    expect_padding(data, root.length)
+    if root.length > len(data) or not is_whole:
         raise Fault(f"its contents are cut off at their byte {len(data)}")
-    for name, _, tables in nodes_in(root[2], data):
-        if name == "StringFileInfo":
-            for _, _, table in nodes_in(tables, data):
-                for key, value, _ in nodes_in(table, data):
-                    text = decoded(value).split("\0")[0]
-                    if text:
-                        yield key, text
 
 
 READERS = {MENU: texts_of_menu, DIALOG: texts_of_dialog, STRINGS: texts_of_strings, MESSAGES: texts_of_messages, VERSION: texts_of_version}
+
+
+def type_of(kind):
+    if isinstance(kind, str):
+        return f"type {shown(kind, True)}"
+    return f"type {kind} ({TYPES[kind]})" if kind in TYPES else f"type {kind}"
+
+
+def offsets_of(text):
+    """Yields the offset in units of each character."""
+    offset = 0
+    for char in text:
+        yield offset
+        offset += len(units(char)) // 2
+
+
+def of_utf8(data):
+    """Returns the text of bytes in UTF-8, with U+FFFD for what is ill formed, and the faults."""
+    text, faults = "", []
+    while data:
+        try:
+            return text + data.decode(), faults
+        except UnicodeDecodeError as error:
+            text += data[: error.start].decode()
+            faults.append(f"fault {data[error.start]:02X} at unit {len(units(text)) // 2}")
+            text += "\ufffd"
+            data = data[error.end :]
+    return text, faults
+
+
+def is_resource(data):
+    """Returns whether a file begins with a resource whose header can be read."""
+    try:
+        reader = Reader(data, [], "")
+        reader.read_texts = lambda *_: None
+        reader.number = 1
+        reader.read_resource()
+    except Fault:
+        return False
+    return True
 
 
 class Reader:
@@ -358,27 +503,51 @@ class Reader:
 
     def __init__(self, data, options, prefix):
         self.data, self.options, self.prefix = data, options, prefix
-        self.at = self.number = self.begin = self.skipped = 0
-        self.printed, self.reported, self.notes = [], [], []
+        self.at = self.number = self.begin = 0
+        self.printed, self.reported, self.notes, self.skipped = [], [], [], []
 
     def report(self, what):
         self.reported.append(f"resource {self.number} at byte {self.begin}: {what}")
 
     def read(self):
-        for beginning, what in ((b"\x7fELF", "an ELF file"), (b"LazarusResources.Add", "Lazarus' text form of resources")):
-            if self.data.startswith(beginning):
-                return self.reported.append(f"{what}, which is not read")
-        if self.data[:1] == b"\xff" and self.data[2:4] == b"\0\xff" and self.data[1] < 0x20:
-            return self.reported.append("a 16-bit resource file, which is not read")
         if not self.data:
             return self.reported.append("no resource")
         if self.data.startswith(b"MZ"):
             self.read_executable()
-        else:
+        elif EMPTY.startswith(self.data[:16]):
             self.read_file()
-        if "--skipped" in self.options and self.skipped:
-            self.notes.append(f"note: resources of other types: {self.skipped}")
+        else:
+            what = self.other_format()
+            if what:
+                return self.reported.append(what)
+            self.read_file()
+        if self.skipped:
+            order = lambda kind: (isinstance(kind, str), units(kind) if isinstance(kind, str) else kind)
+            counts = (f"{self.skipped.count(kind)} of {type_of(kind)}" for kind in sorted(set(self.skipped), key=order))
+            self.notes.append(f"note: skipped: {', '.join(counts)}")
         return None
+
+    def other_format(self):
+        """Returns what a file is that does not begin with the empty resource, unless it begins with another one."""
+        data, text = self.data, self.data.decode("latin-1")
+        known = {b"\x7fELF": "an ELF file", b"\x89PNG\r\n\x1a\n": "a PNG image"}
+        for mark, what in known.items():
+            if data.startswith(mark):
+                return f"{what}, which is not read"
+        if is_resource(data):
+            return None
+        # A type and a name, each FF and a number or a text in ASCII, flags, a size and contents.
+        header = re.match(r"(?s)(?:(?:\xff..)|[ -~]+\0){2}..(....)", text)
+        if header and header.end() + int.from_bytes(header[1].encode("latin-1"), "little") <= len(data):
+            return "a 16-bit resource file, which is not read"
+        machine, count = struct.unpack_from("<HH", data) if len(data) >= 20 else (0, 0)
+        if machine in (0x14C, 0x1C0, 0x1C4, 0x200, 0x8664, 0xAA64) and data[16:18] == b"\0\0" and 0 < 40 * count <= len(data) - 20:
+            return "a COFF object file, which is not read"
+        if re.match(r"(?s)(?:\xef\xbb\xbf)?(?:[ \t\r\n]|\{[^}]*\})*LazarusResources\.Add", text):
+            return "Lazarus' text form of resources, which is not read"
+        if data[:2] in (b"\xff\xfe", b"\xfe\xff") or not re.search(r"[\0-\x08\x0b\x0e-\x19\x1b-\x1f]", text[:1024]):
+            return "text, not a compiled resource, which is not read"
+        return "no .res file: it does not begin with the empty resource"
 
     def read_file(self):
         while self.at < len(self.data):
@@ -428,35 +597,42 @@ class Reader:
             self.report("is not the empty resource that a file begins with")
         if missing > 0:
             self.report(f"bytes missing: {missing}")
-        if self.begin or not is_empty:
+        if not is_empty:
             self.read_texts(kind, name, language, self.data[data_begin : data_begin + data_size])
 
     def read_texts(self, kind, name, language, data):
         if kind not in READERS:
-            self.skipped += 1
+            self.skipped.append(kind)
+            if "--skipped" in self.options:
+                self.notes.append(f"note: resource {self.number} at byte {self.begin}: skipped, {type_of(kind)}, bytes: {len(data)}")
             return
+        faults = Faults()
         try:
-            for number, text in READERS[kind](name, data):
+            for number, text in READERS[kind](name, data, faults):
                 self.put(kind, name, language, number, text)
         except Fault as fault:
-            self.report(str(fault))
+            faults.append(str(fault))
+        for fault in faults:
+            self.report(fault)
 
     def put(self, kind, name, language, number, text):
-        is_fault = [0xD800 <= ord(char) < 0xE000 for char in text]
-        if any(is_fault) and "--lossy" not in self.options:
-            offset = 0
-            for char, is_one in zip(text, is_fault):
-                if is_one:
-                    self.report(f"string {0 if kind == VERSION else number}: fault {ord(char):04X} at unit {offset}")
-                offset += len(units(char)) // 2
-            return
-        text = "".join("\ufffd" if is_one else char for char, is_one in zip(text, is_fault))
-        label = LANGUAGES.get(language) if "--names" in self.options else None
-        label = f"{label or f'{language:04X}'} {WORDS[kind]}"
+        words = WORDS[kind]
         if kind in (MENU, DIALOG):
-            label += f"{name if isinstance(name, int) else shown(name, False)} "
-        label += shown(number, False) if kind == VERSION else str(number)
-        self.printed.append(f"{self.prefix}{label}: {shown(text, True)}\n")
+            words += f"{name if isinstance(name, int) else shown(name, False)} "
+        words += shown(number, False) if kind == VERSION else str(number)
+        text, bad = of_utf8(text) if isinstance(text, bytes) else (text, [])
+        faults = []
+        for char, offset in zip(text, offsets_of(text)):
+            if 0xD800 <= ord(char) < 0xE000:
+                faults.append(f"fault {ord(char):04X} at unit {offset}")
+        faults = bad + faults
+        if faults and "--lossy" not in self.options:
+            for fault in faults:
+                self.report(f"{'string ' if kind == STRINGS else ''}{words}: {fault}")
+            return
+        text = "".join("\ufffd" if 0xD800 <= ord(char) < 0xE000 else char for char in text)
+        label = LANGUAGES.get(language) if "--names" in self.options else None
+        self.printed.append(f"{self.prefix}{label or f'{language:04X}'} {words}: {shown(text, True)}\n")
 
     def read_executable(self):
         data = self.data
@@ -582,6 +758,8 @@ def answer(arguments, files):
 
 UNREADABLE = "No such file or directory (os error 2)"
 OPEN = table(2, "", "Open")
+ONE_ITEM = menu((0x80, 1, "a"))
+STRING = node("A", units("bc\0"))
 LONE = table(2, "a\ud83d", "\udc00", "\udc00\ud83d\ude00\ud83d", "fine")
 
 
@@ -620,8 +798,8 @@ INPUTS = [
     one(file(resource("UNICODE", "ARABIC", b"xyz", header_size=52), OPEN)),
     one(file(resource(6, 2, strings("x"), more=b"1"), OPEN)),
     # The other types that have texts.
-    one(file(resource(MENU, 7, menu((0x10, 0, "&File"), (0, 11, "&Open"), (0, 0, ""), (0x80, 12, "E&xit"))), resource(MENU, "M\n", menu((0x80, 1, "a"))))),
-    one(file(resource(MENU, 8, menu_ex((1, 1, "&File"), (0, 11, "&Open"), (0, 0, ""), (0x80, 12, "E&xit"))))),
+    one(file(resource(MENU, 7, menu((0x90, 0, "&File"), (0, 11, "&Open"), (0, 0, ""), (0x80, 12, "E&xit"))), resource(MENU, "M\n", menu((0x80, 1, "a"))))),
+    one(file(resource(MENU, 8, menu_ex((0x81, 1, "&File"), (0, 11, "&Open"), (0, 0, ""), (0x80, 12, "E&xit"))))),
     one(file(resource(DIALOG, 9, dialog("About", (1, 0x80, "OK"), (2, "EDIT", ""), (65535, 0x82, 5), font="MS Shell Dlg")))),
     one(file(resource(DIALOG, "D", dialog("", (1, 0x80, "OK"), menu=3, kind="Class")))),
     one(file(resource(DIALOG, 10, dialog_ex("About", (1, 0x80, "OK"), (4294967295, "STATIC", "深🌊"), font="MS Shell Dlg", extra=b"123")))),
@@ -636,6 +814,47 @@ INPUTS = [
     one(file(resource(MESSAGES, 1, struct.pack("<I", 4) + struct.pack("<III", 1, 9, 52) * 4 + b"\4\0\0\0" * 9))),
     one(file(resource(VERSION, 1, version(("A", "b"))[:-9]), resource(VERSION, 1, b""), resource(VERSION, 1, b"\5\0\0\0\0\0"))),
     one(file(resource(MENU, 7, menu((0, 1, "\ud83d"))), resource(VERSION, 1, version(("A", "\udc00"))))),
+    # The end of a menu: bytes behind it, some of which are padding; none, after an item, after one that opens a submenu, or
+    # where the next submenu is; and a submenu that ends together with the menu.
+    one(file(resource(MENU, 1, ONE_ITEM + units("junk\0")), resource(MENU, 2, ONE_ITEM + bytes(4)), resource(MENU, 3, ONE_ITEM + bytes(3)))),
+    one(file(resource(MENU, 4, ONE_ITEM + b"\1"), resource(MENU, 5, menu((0, 1, "a"), (0, 2, "b"))), resource(MENU, 6, bytes(4)))),
+    one(file(resource(MENU, 7, menu((0x10, 0, "F"), (0, 1, "a"), (0x80, 2, "b"))), resource(MENU, 8, menu((0x90, 0, "F"))))),
+    one(file(resource(MENU, 9, menu((0x10, 0, "F"), (0x10, 0, "G"), (0x80, 1, "a"), (0x80, 2, "b"), (0x90, 0, "H"), (0x80, 3, "c"))))),
+    one(file(resource(MENU, 10, menu((0x90, 0, "F"), (0x90, 0, "G"), (0x80, 1, "a"), (0x80, 2, "no item"))))),
+    one(file(resource(MENU, 11, menu_ex((0x80, 1, "a"), (0, 2, "junk"))), resource(MENU, 12, padded(menu_ex((0x80, 1, "a"))) + bytes(4)))),
+    one(file(resource(MENU, 13, menu_ex((0, 1, "a"))), resource(MENU, 14, menu_ex((1, 1, "F"), (0x80, 2, "a"))), resource(MENU, 15, padded(menu_ex((0x80, 1, "b")))))),
+    one(file(resource(MENU, 16, menu_ex((1, 1, "F"), (0x81, 2, "G"), (0x80, 3, "a"), (0x80, 4, "Help"))))),
+    # Bytes behind the controls of a dialog, which may be controls that are not counted, and padding there.
+    one(file(resource(DIALOG, 9, dialog("C", (1, 0x80, "OK"), (2, 0x80, "No")).replace(b"\2\0", b"\1\0", 1)))),
+    one(file(resource(DIALOG, 9, dialog("C", (1, 0x80, "OK")) + b"\1\2\3\4" * 4), resource(DIALOG, 9, dialog_ex("C") + bytes(2)))),
+    one(file(resource(DIALOG, 9, dialog_ex("C", (1, 0x80, "OK")) + bytes(4)), resource(DIALOG, 9, dialog_ex("C") + b"\1"))),
+    # Blocks of messages in which the numbers run backwards, and bytes that no block has.
+    one(file(resource(MESSAGES, 1, struct.pack("<IIIIIII", 2, 9, 5, 28, 1, 1, 28) + messages((1, "a"))[16:]))),
+    one(file(resource(MESSAGES, 1, messages((1, "a")) + b"junk"), resource(MESSAGES, 1, messages((1, "a")) + bytes(3)))),
+    one(file(resource(MESSAGES, 1, messages((1, "a", "b")).replace(b"\2\0\0\0", b"\1\0\0\0", 1)), resource(MESSAGES, 1, bytes(4)))),
+    one(file(resource(MESSAGES, 1, struct.pack("<IIIIIII", 2, 1, 2, 99, 4, 4, 28) + messages((1, "a"))[16:]))),
+    # A code page, UTF-8, ill-formed UTF-8, flags that there are not, and half a unit.
+    one(file(resource(MESSAGES, 1, messages((1, b"caf\xe9\r\n"))), resource(MESSAGES, 1, messages((1, "café 🌊\r\n".encode()), flags=2)))),
+    one(file(resource(MESSAGES, 1, messages((1, b"a\xe2\x82b\xff", "fine".encode()), flags=2)))),
+    lossy(file(resource(MESSAGES, 1, messages((1, b"a\xe2\x82b\xff"), flags=2)))),
+    one(file(resource(MESSAGES, 1, messages((1, "a", "b"), flags=4)), resource(MESSAGES, 1, messages((1, "a"), flags=0x101)))),
+    one(file(resource(MESSAGES, 1, struct.pack("<IIIIHH", 1, 1, 1, 16, 7, 1) + b"a\0b"))),
+    # Lengths of version information: of the whole, too small and too great, with padding and other bytes behind it.
+    one(file(resource(VERSION, 1, version_of(STRING, length=92)), resource(VERSION, 1, version_of(STRING, length=200)))),
+    one(file(resource(VERSION, 1, version_of(STRING) + bytes(3)), resource(VERSION, 1, version_of(STRING) + b"junkjunk"), resource(VERSION, 1, version_of(STRING) + bytes(4)))),
+    # Of values: of the whole, greater than what is left; of a string in bytes, in units without the NUL, 0, and wrong ones.
+    one(file(resource(VERSION, 1, version_of(STRING, value_length=999)))),
+    one(file(resource(VERSION, 1, version_of(*[node("Company", units("Deep sea\0"), value_length=length) for length in (8, 9, 16, 18)])))),
+    one(file(resource(VERSION, 1, version_of(*[node("Company", units("Deep sea\0"), value_length=length) for length in (0, 4, 10, 17, 999)])))),
+    one(file(resource(VERSION, 1, version_of(node("Company", units("Company\0"), is_text=False, value_length=8), node("Name", units("Company\0"), value_length=0))))),
+    one(file(resource(VERSION, 1, version_of(node("A", units("one\0two\0")), node("B", units("two\0\0")), node("C", units("open")))))),
+    # Nodes that are cut off, and one whose sizes are.
+    one(file(resource(VERSION, 1, version_of(STRING, node("B", units("lost\0")))[:-6]), resource(VERSION, 1, version_of(STRING, b"\5\0\0\0\0\0")))),
+    # A text that is ill formed, by its type.
+    one(file(resource(DIALOG, "D", dialog("\ud83d", (7, 0x80, "\udc00"))), resource(MESSAGES, 1, messages((5, "\ud83d"))))),
+    # Resources without texts.
+    one(file(resource(3, 1, b"1"), resource(3, 2, b"22"), resource(24, 1, b"<x/>"), resource(999, 1, b""), resource("TEXT", 1, b"1"), resource(3, 3, b""), resource("A\n", 1, b""))),
+    (["--skipped", "{}"], file(resource(3, 1, b"1"), resource("TEXT", "N", b"22"), OPEN, resource(24, 1, b"<x/>"), EMPTY)),
     # Executables.
     one(executable((STRINGS, 2, 0x409, strings("", "Open")), (MENU, "MAIN", 0x407, menu((0x80, 3, "&Öffnen"))), (10, 1, 0, b"x"), ("TEXT", 1, 0, b"y"))),
     one(executable((STRINGS, 2, 0x409, strings("", "Open")), (STRINGS, 2, 0x407, strings("", "Öffnen")), bits=64)),
@@ -651,6 +870,23 @@ INPUTS = [
     one(b"\x7fELF\2\1\1"),
     one(b"LazarusResources.Add('TForm1','FORMDATA',["),
     one(b"\xff\6\0\xff\1\0\x30\x10" + bytes(9)),
+    one(b"\xff\4\0MAINMENU\0\x30\x10\4\0\0\0" + bytes(4)),
+    one(b"MYTYPE\0\xff\1\0\x30\x10\4\0\0\0abcd"),
+    one(b"\xff\xf0\0\xff\1\0\x30\x10\4\0\0\0abcd"),
+    one(b"\xff\x0e\0MAIN\xe9\0\x30\x10\4\0\0\0abcd"),
+    one(b"\xff\6\0\xff\1\0\x30\x10\5\0\0\0abcd"),
+    one(b"{ a comment }\r\n\r\nLazarusResources.Add('x','PNG',["),
+    one(b"\xef\xbb\xbf\r\n LazarusResources.Add('x','PNG',["),
+    one(b"{ LazarusResources.Add("),
+    one(b"\x89PNG\r\n\x1a\n" + bytes(9)),
+    one(struct.pack("<HHIIIHH", 0x14C, 1, 0, 0, 0, 0, 0) + bytes(40)),
+    one(struct.pack("<HHIIIHH", 0x14C, 2, 0, 0, 0, 0, 0) + bytes(40)),
+    one(b'STRINGTABLE\r\nBEGIN\r\n 1 "a"\r\nEND\r\n'),
+    one(b"\xff\xfe" + units('STRINGTABLE { 1 "a" }')),
+    one(b"PK\3\4" + bytes(30)),
+    one(bytes(64)),
+    one(EMPTY[:20]),
+    one(menu((0x80, 1, "a"))),
     # Faults of a file, and of a header.
     one(b""),
     one(b"\0"),
@@ -682,6 +918,33 @@ INPUTS = [
     (["{}", "no.res", "", "{}"], file(OPEN)),
     (["{}", "no.res", "", "{}"], b""),
 ]
+
+
+def samples():
+    """Returns the files of the example's samples by their names: a resource of each kind that has texts and two that have
+    none, in a `.res` file and in an executable."""
+    kinds = [
+        (STRINGS, 2, 0x409, strings("", "Open", "Save")),
+        (MENU, "MAIN", 0x407, menu((0x10, 0, "&Datei"), (0, 11, "Ö&ffnen"), (0x80, 12, "B&eenden"), (0x90, 0, "&Hilfe"), (0x80, 13, "&Info"))),
+        (MENU, 8, 0x409, menu_ex((1, 1, "&File"), (0x80, 11, "&Open"), (0x80, 12, "&Help"))),
+        (DIALOG, 9, 0x409, dialog("About", (1, 0x80, "OK"), (2, 0x82, "Deep sea 🌊"), font="MS Shell Dlg")),
+        (DIALOG, 10, 0x409, dialog_ex("Find", (1, 0x80, "Next"), font="MS Shell Dlg")),
+        (MESSAGES, 1, 0x409, messages((1, "Done\r\n", "No such file: %1\r\n"), (0x40000001, b"caf\xe9\r\n"))),
+        (VERSION, 1, 0x409, version(("CompanyName", "Deep sea"), ("FileVersion", "1.0"))),
+        (3, 1, 0, bytes(8)),
+        (24, 1, 0, b"<assembly/>"),
+    ]
+    return {
+        "texts.res": file(*[resource(kind, name, data, language) for kind, name, language, data in kinds]),
+        "texts.exe": executable(*kinds),
+    }
+
+
+def write_samples():
+    data = f"{os.path.dirname(os.path.dirname(os.path.realpath(__file__)))}/crates/example_resources/data"
+    for name, content in samples().items():
+        with open(f"{data}/{name}", "wb") as written:
+            written.write(content)
 
 
 # Random inputs.
@@ -728,6 +991,14 @@ def random_file(source):
     return data[32:] if changed < 0.23 else padded(data)
 
 
+def random_bytes(source):
+    """Returns text in UTF-8, of which some bytes are damaged."""
+    data = bytearray("aé深🌊\r\n".encode())
+    for _ in range(source.randint(0, 2)):
+        data[source.randrange(len(data))] = source.choice([0x41, 0x80, 0xC3, 0xE0, 0xED, 0xF0, 0xF4, 0xFF])
+    return bytes(data)
+
+
 def random_texts(source):
     """Returns a type and contents with texts, which may be damaged."""
     text = lambda: random_text(source).replace("\0", "")
@@ -735,11 +1006,13 @@ def random_texts(source):
     kind, data = source.choice(
         [
             (STRINGS, lambda: strings(*[text() for _ in range(source.randint(0, 16))])),
-            (MENU, lambda: menu(*[(source.choice([0, 0x10, 0x80]), number(), text()) for _ in range(3)])),
-            (MENU, lambda: menu_ex(*[(source.choice([0, 1, 0x80]), number(), text()) for _ in range(3)])),
+            (MENU, lambda: menu(*[(source.choice([0, 0x10, 0x90, 0x80]), number(), text()) for _ in range(3)], (0x80, 1, "last"))),
+            (MENU, lambda: menu_ex(*[(source.choice([0, 1, 0x81, 0x80]), number(), text()) for _ in range(3)], (0x80, 1, "last"))),
             (DIALOG, lambda: dialog(text(), *[(number(), 0x80, text()) for _ in range(2)], font=source.choice([None, "F"]))),
             (DIALOG, lambda: dialog_ex(text(), *[(number(), "C", text()) for _ in range(2)], extra=bytes(source.randint(0, 3)))),
             (MESSAGES, lambda: messages((number(), text(), b"x\xe9"), (9, text()))),
+            (MESSAGES, lambda: messages((number(), b"x\xe9", random_bytes(source)), flags=source.choice([0, 2, 2, 2, 3]))),
+            (VERSION, lambda: version_of(*[node("N", units(text() + "\0"), value_length=number(), is_text=source.random() < 0.5) for _ in range(2)])),
             (VERSION, lambda: version((text(), text()), ("A", text()), tables=source.randint(0, 2))),
         ]
     )
@@ -753,7 +1026,7 @@ def damaged(source, data):
     data = bytearray(data)
     for _ in range(source.randint(1, 3) if changed < 0.3 and data else 0):
         data[source.randrange(len(data))] = source.choice([0, 1, 2, 6, 0x80, 0xD8, 0xFF])
-    return bytes(data)
+    return bytes(data) + (bytes(source.randint(1, 9)) if changed > 0.9 else b"")
 
 
 def random_executable(source):
@@ -800,3 +1073,9 @@ def cases():
             words.pop(0)
         printed, reported, status = answer(names, [file if word == "{}" else UNREADABLE for word in words])
         yield "", arguments, file, printed.encode(), reported.encode(), status
+
+
+if __name__ == "__main__":
+    if sys.argv[1:] != ["--samples"]:
+        sys.exit("usage: bench/example_cases_resources.py --samples")
+    write_samples()

@@ -4,8 +4,9 @@
 //! Standard output gets a line for each text that is not empty: its language in hexadecimal, what it is, its identifier
 //! and the text, as in `0409 17: "Open"` of a string table. Standard error reports damage with the file, the number of the
 //! resource, from 1, and its offset in bytes, from 0. For ill-formed text it reports the text and each unit, from 0, and
-//! does not print it; with `--lossy` it is printed with U+FFFD for each fault. What can be read after damage is read. The
-//! status is 1 if anything was reported or a file could not be read, and 2 after a usage error.
+//! does not print it; with `--lossy` it is printed with U+FFFD for each fault. What can be read after damage is read. Notes
+//! say how many resources have types without texts, and with `--skipped` which. The status is 1 if anything was reported or
+//! a file could not be read, and 2 after a usage error.
 #![tactic(auto)]
 
 mod texts;
@@ -37,11 +38,12 @@ messages, versions, menus and dialogs.
 
   --lossy      prints ill-formed texts with U+FFFD for each fault
   --names      prints the names of languages, such as en-US, where they are known
-  --skipped    says how many resources have other types
+  --skipped    notes each resource of a type without texts
   --help, --version
 
-Standard error reports damage by resource and byte. The exit status is 1 if
-anything was reported, and 2 if the arguments are wrong.
+Standard error reports damage by resource and byte, and notes how many resources
+have types without texts. The exit status is 1 if anything was reported, and 2 if
+the arguments are wrong. A note does not change it.
 ";
 
 // What is printed.

@@ -1,7 +1,7 @@
 //! Dialogs, of both formats: a caption, and controls with their numbers and texts.
 
 use crate::cursor::Cursor;
-use crate::texts::{Text, TextDamage};
+use crate::texts::{Found, Text, TextDamage};
 use wide_error::OutOfMemory;
 
 // The bit of a style after which the name of a font follows.
@@ -55,40 +55,39 @@ fn read_control<'a>(cursor: &mut Cursor<'a>, is_extended: bool) -> Option<Text<'
     let bytes = cursor.text_or_number()?;
     let extra = cursor.unit()?;
     let _data = cursor.take(usize::from(extra))?;
-    Some(Text {
-        id,
-        name: &[],
-        bytes,
-        is_wide: true,
-    })
+    Some(Text::of_units(id, bytes))
+}
+
+// Adds the texts of so many controls that are not empty. Returns whether all were read.
+fn read_controls<'a>(
+    cursor: &mut Cursor<'a>,
+    is_extended: bool,
+    count: u16,
+    found: &mut Found<'a>,
+) -> Result<bool, OutOfMemory> {
+    for _ in 0..count {
+        let Some(text) = read_control(cursor, is_extended) else {
+            return Ok(false);
+        };
+        found.add(text)?;
+    }
+    Ok(true)
 }
 
 /// Adds the texts of a dialog that are not empty: its caption, with the number 0, and those of its controls.
-pub fn read_dialog<'a>(
-    contents: &'a [u8],
-    texts: &mut Vec<Text<'a>>,
-) -> Result<Option<TextDamage>, OutOfMemory> {
+pub fn read_dialog<'a>(contents: &'a [u8], found: &mut Found<'a>) -> Result<(), OutOfMemory> {
     let mut cursor = Cursor::new(contents);
     let is_extended = is_extended(contents);
-    let Some(head) = read_head(&mut cursor, is_extended) else {
-        return Ok(Some(TextDamage::Cut(contents.len())));
-    };
-    if !head.caption.is_empty() {
-        let (bytes, name): (_, &[u8]) = (head.caption, &[]);
-        texts.push(Text {
-            id: 0,
-            name,
-            bytes,
-            is_wide: true,
-        })?;
-    }
-    for _ in 0..head.controls {
-        let Some(text) = read_control(&mut cursor, is_extended) else {
-            return Ok(Some(TextDamage::Cut(contents.len())));
-        };
-        if !text.bytes.is_empty() {
-            texts.push(text)?;
+    let is_whole = match read_head(&mut cursor, is_extended) {
+        Some(head) => {
+            found.add(Text::of_units(0, head.caption))?;
+            read_controls(&mut cursor, is_extended, head.controls, found)?
         }
+        None => false,
+    };
+    if is_whole {
+        found.note_rest(cursor)
+    } else {
+        found.note(TextDamage::Cut(contents.len()))
     }
-    Ok(None)
 }

@@ -4,6 +4,8 @@
 
 mod cursor;
 mod dialogs;
+mod formats;
+mod kinds;
 mod languages;
 mod menus;
 mod messages;
@@ -14,8 +16,10 @@ mod strings;
 mod texts;
 mod version;
 
+pub use formats::{Format, format_of};
+pub use kinds::{KindCount, count_kinds, kind_name};
 pub use languages::language_name;
 pub use numbers::{part_of, size_at, unit_at};
 pub use pe::{Executable, Leaf, Leaves, PeDamage, open_executable};
-pub use res::{Damage, Part, Parts, Resource, other_format};
-pub use texts::{Name, Text, TextDamage, TextKind, kind_named, read_texts};
+pub use res::{Damage, Part, Parts, Resource};
+pub use texts::{Found, Name, Text, TextDamage, TextForm, TextKind, kind_named, read_texts};

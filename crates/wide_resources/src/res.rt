@@ -1,6 +1,6 @@
 //! `.res` files: resources one after the other, each with a header and at a multiple of four bytes.
 
-ghost use Rattle.std.specs.Prelude.{◌≡◌, ◌+◌, ◌++◌, ◌≤◌, [], IfOk, MatchOption, drop, length, take};
+ghost use Rattle.std.specs.Prelude.{◌≡◌, ◌+◌, ◌++◌, ◌≤◌, ◌⊎◌, [], IfOk, MatchOption, drop, length, take};
 ghost use Rattle.std.specs.Int.{from_le_bytes, w32};
 
 use crate::numbers::{size_at, unit_at};
@@ -87,7 +87,7 @@ fn split_name(bytes: &[u8]) -> Option<(Name<'_>, &[u8])> {
 
 // Reads the resource at the start of some bytes. A header whose size is no multiple of four is followed by padding, or its
 // size leaves out the padding within it.
-fn read_resource(bytes: &[u8]) -> Result<Resource<'_>, Damage>
+pub fn read_resource(bytes: &[u8]) -> Result<Resource<'_>, Damage>
     ensures data_size { IfOk result (λ it. it.data_size ≡ from_le_bytes w32 (take 4 bytes.now)) }
     ensures header_size { IfOk result (λ it. it.header_size ≡ from_le_bytes w32 (take 4 (drop 4 bytes.now))) }
     ensures least { IfOk result (λ it. 28 ≤ it.header_size) }
@@ -152,9 +152,11 @@ impl<'a> Iterator for Parts<'a> {
 
     type Item = Part<'a>;
 
-    // A part begins where the previous one ended, and no byte is lost between it and the next ones, up to the end.
+    // A part begins where the previous one ended, and no byte is lost between it and the next ones, up to the end. It holds
+    // its whole resource, unless it is the last part.
     ghost next_gives = { λ old part new. MatchOption part (old.rest.now ≡ []) (λ it.
-        (it.at + length old.rest.now ≡ length old.file.now) × (old.rest.now ≡ it.bytes.now ++ new.rest.now)) };
+        (it.at + length old.rest.now ≡ length old.file.now) × (old.rest.now ≡ it.bytes.now ++ new.rest.now)
+        × IfOk it.resource (λ resource. (new.rest.now ≡ []) ⊎ (resource.header_size + resource.data_size ≤ length it.bytes.now))) };
 
     ghost remaining = { λ s. at_most (length s.rest.now) };
 
@@ -175,27 +177,5 @@ impl<'a> Iterator for Parts<'a> {
             bytes,
             resource,
         })
-    }
-}
-
-// What files begin with that are no `.res` files, and what they are.
-static FORMATS: [(&[u8], &str); 2] = [
-    (b"\x7fELF", "an ELF file"),
-    (b"LazarusResources.Add", "Lazarus' text form of resources"),
-];
-
-/// Returns what a file is that has resources in another form, if its beginning shows that.
-pub fn other_format(file: &[u8]) -> Option<&'static str> {
-    for (beginning, what) in &FORMATS {
-        if file.starts_with(*beginning) {
-            return Some(*what);
-        }
-    }
-    // A resource of 16-bit Windows begins with its type: FF and a number, or a text.
-    match file {
-        [0xff, kind, zero, 0xff, ..] if *kind < 0x20 && *zero == 0 => Some(
-            "a 16-bit resource file",
-        ),
-        _ => None,
     }
 }
