@@ -9,6 +9,8 @@ import re
 import struct
 import sys
 
+from example_forms import is_hidden
+
 USAGE = "usage: resources [--lossy] [--names] [--skipped] FILE..\n"
 EMPTY = struct.pack("<8I", 0, 32, 0xFFFF, 0xFFFF, 0, 0, 0, 0)
 MENU, DIALOG, STRINGS, MESSAGES, VERSION = 4, 5, 6, 11, 16
@@ -21,7 +23,6 @@ TYPES = {
 }
 LANGUAGES = {0x407: "de-DE", 0x409: "en-US", 0x40C: "fr-FR"}
 TERMINAL = {"\n": "\\n", "\r": "\\r", "\t": "\\t", "\0": "\\0"}
-HIDDEN = "\u2028\u2029\u202a\u202b\u202c\u202d\u202e\u2066\u2067\u2068\u2069\ufeff"
 
 
 # Functions that make files.
@@ -191,7 +192,7 @@ def shown(text, in_quotes):
             written += "\\" + char
         elif 0xD800 <= ord(char) < 0xE000:
             written += f"\\<{ord(char):04X}>"
-        elif ord(char) < 32 or 0x7F <= ord(char) < 0xA0 or char in HIDDEN:
+        elif is_hidden(char):
             written += TERMINAL.get(char) or f"\\u{{{ord(char):x}}}"
         else:
             written += char

@@ -2,7 +2,7 @@
 
 use std::alloc::Global;
 use std::fmt::{Display, Write};
-use wide_files::{CodePage, Document, Form, Outcome, Quoted, Shown};
+use wide_files::{CodePage, Document, Form, Outcome, Quoted, Shown, ShownText};
 use wide_resources::{
     Damage, Format, Found, Name, Part, Parts, Text, TextForm, TextKind, count_kinds, format_of,
     kind_name, kind_named, language_name, open_executable, read_texts,
@@ -149,7 +149,7 @@ impl<'a> Texts<'a> {
         units: U16Str<'_>,
     ) -> Result<(), OutOfMemory> {
         if !outcome.file.is_empty() {
-            write!(outcome.output, "{}:", outcome.file)?;
+            write!(outcome.output, "{}:", ShownText(outcome.file))?;
         }
         match language_name(language) {
             Some(name) if self.options.has_names => write!(outcome.output, "{name} ")?,
