@@ -167,12 +167,14 @@ class Reader:
 
 
 def request_of(words):
-    """Returns the options, the milliseconds and whether lines are dropped, or None."""
+    """Returns the options, the milliseconds and whether lines are dropped, or an option without its value, or None."""
     options, words = {}, list(words)
     while words and re.match("-[^0-9]", words[0]):
         name = words.pop(0)
         if name == "--":
             break
+        if name != "--drop" and not words:
+            return name
         options[name] = True if name == "--drop" else words.pop(0)
     if not (len(words) == 2 or (len(words) == 3 and words[2] == "drop")):
         return None
@@ -263,6 +265,8 @@ def read(words, data):
     request = request_of(words)
     if request is None:
         return b"", USAGE, 2
+    if isinstance(request, str):
+        return b"", USAGE.replace(b"wrong arguments", f"'{request}' needs an argument".encode()), 2
     options, by, drops = request
     form, skip = form_of(data, options.get("--form"))
     if not form:
