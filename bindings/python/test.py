@@ -557,7 +557,7 @@ def main(arguments):
     count = int(arguments[0]) if arguments else 100000
     seed = int(arguments[1]) if arguments[1:] else 1
     random.seed(seed)
-    equal("version", widestring.version(), (0, 1, 0))
+    equal("version", widestring.version(), (0, 2, 0))
     checks = (check_rejected_arguments, check_lying_lengths, check_own_buffers, check_buffers, check_other_elements, check_numpy, check_memory, check_long_pieces)
     for check in checks:
         check()
