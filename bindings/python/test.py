@@ -425,7 +425,7 @@ def import_error(**environment):
 def check_imports(libraries):
     """Checks that the import fails without a library, with a file that is not one, and with libraries of another
     version or with no version, and that the message names the environment variable."""
-    here = os.path.dirname(os.path.abspath(widestring.__file__))
+    here = os.path.dirname(os.path.dirname(os.path.abspath(widestring.__file__)))
     for library in ("/nonexistent/libwidestring.so", os.devnull, os.path.abspath(__file__), "libno_such_library.so", *libraries):
         printed = import_error(WIDESTRING_LIBRARY=library, PYTHONPATH=here)
         equal(f"the import of {library}", (printed.split()[:1], "WIDESTRING_LIBRARY" in printed), (["ImportError"], True))

@@ -59,6 +59,18 @@ function unitsOf(text, width) {
     return text;
 }
 
+/** Adds pages to 64-bit memory: by a BigInt, or in older engines, such as that of Node 20, by a number. */
+function grow(memory, pages) {
+    try {
+        memory.grow(BigInt(pages));
+    } catch (error) {
+        if (!(error instanceof TypeError)) {
+            throw error;
+        }
+        memory.grow(pages);
+    }
+}
+
 function named(value, names, what) {
     if (!Object.values(names).includes(value)) {
         throw new RangeError(`${String(value)} is none of ${what}`);
@@ -88,7 +100,7 @@ export class Widestring {
         });
         const missing = end - this.#memory.buffer.byteLength;
         if (missing > 0) {
-            this.#memory.grow(BigInt(Math.ceil(missing / PAGE)));
+            grow(this.#memory, Math.ceil(missing / PAGE));
         }
         return places;
     }
