@@ -29,7 +29,6 @@ export class Fault extends RangeError {
     }
 }
 
-const PAGE = 65536;
 /** What a function returns if it has no number to report. */
 const NONE = 2n ** 64n - 1n;
 const ARRAYS = { 1: Uint8Array, 2: Uint16Array, 4: Uint32Array };
@@ -59,18 +58,6 @@ function unitsOf(text, width) {
     return text;
 }
 
-/** Adds pages to 64-bit memory: by a BigInt, or in older engines, such as that of Node 20, by a number. */
-function grow(memory, pages) {
-    try {
-        memory.grow(BigInt(pages));
-    } catch (error) {
-        if (!(error instanceof TypeError)) {
-            throw error;
-        }
-        memory.grow(pages);
-    }
-}
-
 function named(value, names, what) {
     if (!Object.values(names).includes(value)) {
         throw new RangeError(`${String(value)} is none of ${what}`);
@@ -90,7 +77,7 @@ export class Widestring {
         this.#base = (Number(instance.exports.__heap_base.value) + 15) & -16;
     }
 
-    /** Returns the offsets in memory for blocks of these lengths in bytes. The memory grows if they don't fit. */
+    /** Returns the offsets in memory for blocks of these lengths in bytes. The memory has a fixed size. */
     #places(lengths) {
         let end = this.#base;
         const places = lengths.map((length) => {
@@ -98,9 +85,8 @@ export class Widestring {
             end += (length + 15) & -16;
             return place;
         });
-        const missing = end - this.#memory.buffer.byteLength;
-        if (missing > 0) {
-            grow(this.#memory, Math.ceil(missing / PAGE));
+        if (end > this.#memory.buffer.byteLength) {
+            throw new RangeError(`the text is too long: ${this.#memory.buffer.byteLength} bytes of memory are not enough for it and its result`);
         }
         return places;
     }

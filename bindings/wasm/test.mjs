@@ -96,12 +96,13 @@ for (let turn = 0; turn < Number(count); turn += 1) {
     assert.equal(Buffer.concat(pieces).toString(), lossyOf(text, Lossy.Each));
     assert.equal(converter.faults, faults.length);
 }
-// Memory grows, and what was returned stays.
+// Long texts fit into the memory, and what was returned stays.
 const before = wide.utf16ToUtf8("kept");
 const long = "long\ud83d\ude00".repeat(1_000_000);
 assert.deepEqual(wide.utf16ToUtf8(long), utf8.encode(long));
 assert.equal(wide.toString16(wide.utf8ToUtf16(utf8.encode(long))), long);
 assert.equal(Buffer.from(before).toString(), "kept");
+assert.throws(() => wide.utf16ToUtf8(new Uint16Array(2 ** 28)), RangeError);
 assert.equal(wide.utf16FloorCharBoundary("a\ud83d\ude00", 2), 1);
 assert.throws(() => wide.utf16ToUtf8(new Uint8Array(2)), TypeError);
 assert.throws(() => wide.utf16ToUtf8("", 3), RangeError);
