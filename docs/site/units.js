@@ -1,8 +1,8 @@
 // The page "Units and faults": fills its tables from what was typed. `wide` is the module's wrapper, and `Lossy` and
 // `Order` are its policies and orders.
 const hex = (number, digits) => number.toString(16).toUpperCase().padStart(digits, "0");
-const bytesOf = (array) => [...array].map((byte) => hex(byte, 2)).join(" ");
-const unitsOf = (array) => [...array].map((unit) => hex(unit, 4)).join(" ");
+const hexOfBytes = (array) => [...array].map((byte) => hex(byte, 2)).join(" ");
+const hexOfUnits = (array) => [...array].map((unit) => hex(unit, 4)).join(" ");
 const byId = (id) => document.getElementById(id);
 
 /** A row of a table, of texts alone. */
@@ -26,9 +26,9 @@ function shown(value) {
 function itemRow(wide, units, item) {
     const part = units.subarray(item.offset, item.offset + item.length);
     const name = item.isFault ? "fault" : `U+${hex(item.value, 4)}${shown(item.value)}`;
-    const utf8 = item.isFault ? "none" : bytesOf(wide.utf16ToUtf8(part));
-    const orders = [Order.Little, Order.Big].map((order) => bytesOf(wide.utf16ToBytes(part, order)));
-    return row([item.offset, unitsOf(part), name, utf8, ...orders], item.isFault);
+    const utf8 = item.isFault ? "none" : hexOfBytes(wide.utf16ToUtf8(part));
+    const orders = [Order.Little, Order.Big].map((order) => hexOfBytes(wide.utf16ToBytes(part, order)));
+    return row([item.offset, hexOfUnits(part), name, utf8, ...orders], item.isFault);
 }
 
 function show(wide, units) {
@@ -41,13 +41,13 @@ function show(wide, units) {
     const repaired = wide.utf16Repair(units);
     byId("units-texts").replaceChildren(
         row(["Repaired: U+FFFD for each fault", wide.toString16(repaired)]),
-        row(["Its units", unitsOf(repaired)]),
-        row(["UTF-8, strict", first === undefined ? bytesOf(wide.utf16ToUtf8(units)) : `fault at offset ${first}`]),
-        row(["UTF-8, U+FFFD for each fault", bytesOf(wide.utf16ToUtf8(units, Lossy.Each))]),
-        row(["UTF-8, one U+FFFD for each run of faults", bytesOf(wide.utf16ToUtf8(units, Lossy.Run))]),
-        row(["UTF-8, nothing for faults", bytesOf(wide.utf16ToUtf8(units, Lossy.Skip))]),
+        row(["Its units", hexOfUnits(repaired)]),
+        row(["UTF-8, strict", first === undefined ? hexOfBytes(wide.utf16ToUtf8(units)) : `fault at offset ${first}`]),
+        row(["UTF-8, U+FFFD for each fault", hexOfBytes(wide.utf16ToUtf8(units, Lossy.Each))]),
+        row(["UTF-8, one U+FFFD for each run of faults", hexOfBytes(wide.utf16ToUtf8(units, Lossy.Run))]),
+        row(["UTF-8, nothing for faults", hexOfBytes(wide.utf16ToUtf8(units, Lossy.Skip))]),
         row(["UTF-32", [...wide.utf16ToUtf32(units, Lossy.Each)].map((value) => hex(value, 8)).join(" ")]),
-        row(["WTF-8, which keeps each unit", bytesOf(wide.utf16ToWtf8(units))]),
+        row(["WTF-8, which keeps each unit", hexOfBytes(wide.utf16ToWtf8(units))]),
     );
 }
 
@@ -70,7 +70,7 @@ function start(wide) {
     const text = byId("units-text"), numbers = byId("units-hex");
     text.addEventListener("input", () => {
         const units = unitsOfText(text.value);
-        numbers.value = unitsOf(units);
+        numbers.value = hexOfUnits(units);
         show(wide, units);
     });
     numbers.addEventListener("input", () => {
