@@ -38,7 +38,7 @@ def likely_utf16(data):
 
 
 def is_likely_utf8(data):
-    """Returns whether bytes are UTF-8, or have more than two characters beyond ASCII for each ill-formed sequence."""
+    """Returns whether bytes are UTF-8, or have at least two characters beyond ASCII for each ill-formed sequence."""
     faults = []
     # The beginning of a sequence at the end is none.
     codecs.register_error("example_forms", lambda fault: ("" if fault.reason == "unexpected end of data" else faults.append(fault) or "", fault.end))

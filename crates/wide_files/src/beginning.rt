@@ -88,7 +88,7 @@ fn fault_count(bytes: &[u8]) -> usize {
     count
 }
 
-// Returns whether bytes are UTF-8, or damaged UTF-8: with more than two characters beyond ASCII for each ill-formed
+// Returns whether bytes are UTF-8, or damaged UTF-8: with at least two characters beyond ASCII for each ill-formed
 // sequence. In a code page each such character is ill formed, or nearly each.
 fn is_likely_utf8(bytes: &[u8]) -> bool {
     let faults = fault_count(bytes);
