@@ -252,12 +252,16 @@ def question(random, folder):
     elif random.randrange(3) == 0:
         options["--form"] = random.choice([*CODECS, "UTF-16", "UTF-32", "CP1252"])
     word = random.choice(["a", "A", "b", "é", "😀", "ab", "aa", ""])
-    return [*words_of(options), word, *(name for name, _ in files)], *run(options, word, files)
+    words = words_of(options)
+    if random.randrange(3) == 0:
+        letters = [name[1] for name in options if len(name) == 2]
+        words = [f"-{''.join(letters)}"] * bool(letters) + [name for name in words if len(name) != 2]
+    return [*words, word, *(name for name, _ in files)], *run(options, word, files)
 
 
 def cases():
-    yield "wrong words", [], b"", b"", b"lines: wrong arguments\n" + USAGE.encode(), 2
-    yield "no file", ["a"], b"", b"", b"lines: wrong arguments\n" + USAGE.encode(), 2
+    yield "no word", [], b"", b"", b"lines: WORD is missing\n" + USAGE.encode(), 2
+    yield "no file", ["a"], b"", b"", b"lines: FILE is missing\n" + USAGE.encode(), 2
     yield "no such option", ["-x", "a", "{}"], b"", b"", b"lines: unknown option '-x'\n" + USAGE.encode(), 2
     yield "no such form", ["--form", "UTF-7", "a", "{}"], b"", b"", b"lines: '--form' has no value 'UTF-7'\n" + USAGE.encode(), 2
     yield "no form", ["--form"], b"", b"", b"lines: '--form' needs an argument\n" + USAGE.encode(), 2
@@ -271,6 +275,9 @@ def cases():
     yield "the version", ["--version"], b"", b"lines 0.2.0\n", b"", 0
     yield "standard input", ["fish", "-"], TEXT.encode("utf-16"), *run({}, "fish", [("-", TEXT.encode("utf-16"))])
     yield "a word that begins as an option", ["--", "-n", "{}"], "a-n".encode("utf-16"), b"a-n\n", b"", 0
+    one = [("{}", TEXT.encode("utf-16"))]
+    yield "options of one letter in one word", ["-bni", "LANTERN", "{}"], one[0][1], *run({"-n": True, "-i": True, "-b": True}, "LANTERN", one)
+    yield "and a letter that is none", ["-nx", "a", "{}"], b"", b"", b"lines: unknown option '-nx'\n" + USAGE.encode(), 2
     yield "no such file", ["a", "none.txt"], b"", b"", b"lines: none.txt: No such file or directory (os error 2)\n", 2
     for about, options, word, data in FILES:
         yield about, [*words_of(options), word, "{}"], data, *run(options, word, [("{}", data)])

@@ -566,7 +566,7 @@ def question(random, folder):
 
 
 def cases():
-    yield "wrong words", [], b"", b"", f"registry: wrong arguments\n{USAGE}".encode(), 2
+    yield "wrong words", [], b"", b"", f"registry: FILE is missing\n{USAGE}".encode(), 2
     for about, options, data in FILES:
         yield about, [*words_of(options), "{}"], data, *run(options, [("{}", data)])
     yield "two files", ["{}", "{}"], b"REGEDIT4\r\n", b"REGEDIT4\nREGEDIT4\n", b"", 0

@@ -739,7 +739,7 @@ def answer(arguments, files):
             return "", f"resources: unknown option '{option}'\n{USAGE}", 2
         options.append(option)
     if not names:
-        return "", f"resources: wrong arguments\n{USAGE}", 2
+        return "", f"resources: FILE is missing\n{USAGE}", 2
     printed, reported, status = "", "", 0
     for name, data in zip(names, files):
         if isinstance(data, str):

@@ -6,7 +6,7 @@ import os
 from example_forms import is_hidden, likely_form
 
 NAMES = ["string", "length", "indexOf", "isWellFormed", "toWellFormed", "codePointAt", "slice", "insert", "remove", "replace"]
-USAGE = b"script: wrong arguments\nusage: script FILE..\n"
+USAGE = b"script: FILE is missing\nusage: script FILE..\n"
 JSON_ESCAPES = {'"': '"', "\\": "\\", "/": "/", "b": "\b", "f": "\f", "n": "\n", "r": "\r", "t": "\t"}
 # What is written for characters that would change what a terminal shows.
 TERMINAL = {"\n": "\\n", "\r": "\\r", "\t": "\\t", "\0": "\\0"}
@@ -177,7 +177,8 @@ def answer(units, text):
         line.end()
         return units, str(len(units))
     if name == "indexOf":
-        needle = line.escaped_units()
+        # JavaScript makes a text of the value of an argument that is left out.
+        needle = line.escaped_units() if line.rest else units_of("undefined")
         start = min(max(line.offset() or 0, 0), len(units))
         line.end()
         offsets = [at for at in range(start, len(units) + 1) if units[at : at + len(needle)] == needle]
@@ -260,7 +261,7 @@ FILES = [
     ("what is shown in escapes", "string '\"\\\\\t\0\x7f\u0301\u200b\nremove 0\nremove 0\nremove 0\nremove 0\n".encode()),
     ("escapes of JSON", b'string \\"\\\\\\/\\b\\f\\n\\r\\t\nstring \\x\nstring \\\nlength\n'),
     ("text in quotes", 'string "a \\" 😀" \nstring "a" b\nstring "a\nindexOf "😀" 1\nindexOf "a" 1\ninsert 0 "\\n"\n'.encode()),
-    ("arguments that are left out, and negative ones", b"string abcd\nslice\nslice -3\nslice -3 -1\nslice 1 -9\nslice -9 2\ncodePointAt\ncodePointAt -1\nindexOf \"d\" -1\nindexOf \"\" 9\nindexOf\nslice -99999999999999999999 99999999999999999999\n"),
+    ("arguments that are left out, and negative ones", b"string abcd\nslice\nslice -3\nslice -3 -1\nslice 1 -9\nslice -9 2\ncodePointAt\ncodePointAt -1\nindexOf \"d\" -1\nindexOf \"\" 9\nindexOf\nstring undefined\nindexOf\nstring abcd\nslice -99999999999999999999 99999999999999999999\n"),
     ("the length in units", "length\nstring 😀\\uD83D\nlength\nlength 1\n".encode()),
     ("half of a pair is no text of an edit", b"string ab\ninsert 0 \\uD83D\nreplace 0 1 \\uDE00x\ninsert 1 \\uD83D\\uDE00\nremove -1\n"),
     ("a BOM at the beginning", b"\xef\xbb\xbfstring a\n\xef\xbb\xbflength\n"),

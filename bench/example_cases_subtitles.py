@@ -7,7 +7,7 @@ import re
 from example_forms import FORMS as CODECS
 from example_forms import bom_len, is_hidden, likely_form
 
-USAGE = b"subtitles: wrong arguments\nusage: subtitles [--form FORM] [--to FORM] [--drop] FILE MILLISECONDS [drop]\n"
+USAGE = "usage: subtitles [--form FORM] [--to FORM] [--drop] FILE MILLISECONDS [drop]\n"
 GREATEST = 2**32 - 1
 TIME = r"(-?)([0-9]+):([0-9]{1,2}):([0-9]{1,2})([,.])([0-9]{1,3})(?![0-9])"
 BLANK = "\t\x0b\x0c "
@@ -167,20 +167,23 @@ class Reader:
 
 
 def request_of(words):
-    """Returns the options, the milliseconds and whether lines are dropped, or an option without its value, or None."""
+    """Returns the options, the milliseconds and whether lines are dropped, or why the arguments are refused."""
     options, words = {}, list(words)
     while words and re.match("-[^0-9]", words[0]):
         name = words.pop(0)
         if name == "--":
             break
         if name != "--drop" and not words:
-            return name
+            return f"'{name}' needs an argument"
         options[name] = True if name == "--drop" else words.pop(0)
-    if not (len(words) == 2 or (len(words) == 3 and words[2] == "drop")):
-        return None
+    if len(words) < 2:
+        return f"{['FILE', 'MILLISECONDS'][len(words)]} is missing"
     number = re.fullmatch(r"([+-]?)([0-9]+)", words[1])
     if not number or int(number[2]) > GREATEST:
-        return None
+        return f"'{words[1]}' is no number of milliseconds"
+    extra = words[3:] if words[2:3] == ["drop"] else words[2:]
+    if extra:
+        return f"'{extra[0]}' is one word too many"
     return options, int(number[2]) * (-1 if number[1] == "-" else 1), len(words) == 3 or "--drop" in options
 
 
@@ -263,10 +266,8 @@ def output_of(text, data, form, asked, to):
 def read(words, data):
     """Returns standard output, standard error and status."""
     request = request_of(words)
-    if request is None:
-        return b"", USAGE, 2
     if isinstance(request, str):
-        return b"", USAGE.replace(b"wrong arguments", f"'{request}' needs an argument".encode()), 2
+        return b"", f"subtitles: {request}\n{USAGE}".encode(), 2
     options, by, drops = request
     form, skip = form_of(data, options.get("--form"))
     if not form:

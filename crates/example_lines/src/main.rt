@@ -8,7 +8,8 @@ use std::alloc::{AllocError, Global};
 use std::fmt::Write;
 use std::process::ExitCode;
 use wide_files::{
-    Document, Form, OptionWord, Outcome, Place, Program, Shown, ShownText, form_named, form_of, run,
+    Document, Form, OptionWord, Outcome, Place, Program, Refusal, Shown, ShownText, files_of,
+    form_named, form_of, run,
 };
 use widestring::convert::Scheme;
 use widestring::error::OutOfMemory;
@@ -208,12 +209,15 @@ impl Program for Lines {
         Ok(option < 4 || self.form.is_some())
     }
 
-    fn take_words<'a>(&mut self, words: &'a [String]) -> Result<Option<&'a [String]>, OutOfMemory> {
+    fn take_words<'a>(
+        &mut self,
+        words: &'a [String],
+    ) -> Result<Result<&'a [String], Refusal<'a>>, OutOfMemory> {
         let [word, files @ ..] = words else {
-            return Ok(None);
+            return Ok(Err(Refusal::NoWord("WORD")));
         };
         self.word.push_str(word.as_str())?;
-        Ok(if files.is_empty() { None } else { Some(files) })
+        Ok(files_of(files))
     }
 
     fn read(

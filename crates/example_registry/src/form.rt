@@ -57,10 +57,10 @@ pub fn form_of_export(bytes: &[u8], asked: Option<Form>) -> Result<(Form, usize)
 }
 
 // Returns whether a file that is read in a code page looks like UTF-8 beyond ASCII.
-pub fn is_other_than_utf8(bytes: &[u8], form: Form) -> bool {
+pub fn looks_like_utf8(bytes: &[u8], form: Form) -> bool {
     match form {
-        Form::Windows(_) => bytes.is_ascii() || str::from_utf8(bytes).is_err(),
-        Form::Unicode(_) => true,
+        Form::Windows(_) => !bytes.is_ascii() && str::from_utf8(bytes).is_ok(),
+        Form::Unicode(_) => false,
     }
 }
 

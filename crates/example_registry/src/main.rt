@@ -17,13 +17,15 @@ mod reader;
 mod reports;
 mod values;
 
-use crate::form::{form_of_export, is_big_endian, is_other_than_utf8};
+use crate::form::{form_of_export, is_big_endian, looks_like_utf8};
 use crate::reader::Reader;
 use crate::reports::Reports;
 use crate::values::Bytes;
 use std::alloc::Global;
 use std::process::ExitCode;
-use wide_files::{Document, Form, OptionWord, Outcome, Place, Program, form_named, run};
+use wide_files::{
+    Document, Form, OptionWord, Outcome, Place, Program, Refusal, files_of, form_named, run,
+};
 use widestring::convert::Scheme;
 use widestring::error::OutOfMemory;
 
@@ -96,8 +98,11 @@ impl Program for Registry {
         Ok(self.form.is_some())
     }
 
-    fn take_words<'a>(&mut self, words: &'a [String]) -> Result<Option<&'a [String]>, OutOfMemory> {
-        Ok(if words.is_empty() { None } else { Some(words) })
+    fn take_words<'a>(
+        &mut self,
+        words: &'a [String],
+    ) -> Result<Result<&'a [String], Refusal<'a>>, OutOfMemory> {
+        Ok(files_of(words))
     }
 
     fn read(
@@ -110,7 +115,7 @@ impl Program for Registry {
             Ok(found) => found,
             Err(error) => return Ok(outcome.report(error)?),
         };
-        if self.form.is_none() && !is_other_than_utf8(bytes, form) {
+        if self.form.is_none() && looks_like_utf8(bytes, form) {
             outcome.note("it looks like UTF-8, which --form UTF-8 reads")?;
         }
         let document = Document::read(alloc, bytes.get(bom..).unwrap_or_default(), form)?;

@@ -14,7 +14,7 @@ mod texts;
 use std::alloc::Global;
 use std::process::ExitCode;
 use texts::{Options, Texts};
-use wide_files::{OptionWord, Outcome, Program, run};
+use wide_files::{OptionWord, Outcome, Program, Refusal, files_of, run};
 use widestring::error::OutOfMemory;
 
 static OPTIONS: [OptionWord; 3] = [
@@ -78,8 +78,11 @@ impl Program for Resources {
         Ok(true)
     }
 
-    fn take_words<'a>(&mut self, words: &'a [String]) -> Result<Option<&'a [String]>, OutOfMemory> {
-        Ok(if words.is_empty() { None } else { Some(words) })
+    fn take_words<'a>(
+        &mut self,
+        words: &'a [String],
+    ) -> Result<Result<&'a [String], Refusal<'a>>, OutOfMemory> {
+        Ok(files_of(words))
     }
 
     fn read(

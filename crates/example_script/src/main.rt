@@ -7,7 +7,8 @@ use std::alloc::{AllocError, Global};
 use std::fmt::Write;
 use std::process::ExitCode;
 use wide_files::{
-    Form, NoForm, OptionWord, Outcome, Place, Program, ShownText, form_of, name_of, run,
+    Form, NoForm, OptionWord, Outcome, Place, Program, Refusal, ShownText, files_of, form_of,
+    name_of, run,
 };
 use wide_script::Session;
 use widestring::convert::Scheme;
@@ -113,8 +114,11 @@ impl Program for Script {
         Ok(false)
     }
 
-    fn take_words<'a>(&mut self, words: &'a [String]) -> Result<Option<&'a [String]>, OutOfMemory> {
-        Ok(if words.is_empty() { None } else { Some(words) })
+    fn take_words<'a>(
+        &mut self,
+        words: &'a [String],
+    ) -> Result<Result<&'a [String], Refusal<'a>>, OutOfMemory> {
+        Ok(files_of(words))
     }
 
     fn read(

@@ -13,8 +13,8 @@ use std::alloc::Global;
 use std::process::ExitCode;
 use subtitles::{Request, Subtitles};
 use wide_files::{
-    Document, Form, NoForm, OptionWord, Outcome, Place, Program, bom_len, encode_units, form_named,
-    form_of, run, scheme_named,
+    Document, Form, NoForm, OptionWord, Outcome, Place, Program, Refusal, bom_len, encode_units,
+    files_of, form_named, form_of, run, scheme_named,
 };
 use widestring::convert::Scheme;
 use widestring::error::OutOfMemory;
@@ -138,23 +138,29 @@ impl Program for Moving {
         })
     }
 
-    fn take_words<'a>(&mut self, words: &'a [String]) -> Result<Option<&'a [String]>, OutOfMemory> {
-        let [file @ .., last] = words else {
-            return Ok(None);
-        };
-        let drops = last.as_str() == "drop" && file.len() > 1;
-        let words = if drops { file } else { words };
-        let [file, number] = words else {
-            return Ok(None);
+    fn take_words<'a>(
+        &mut self,
+        words: &'a [String],
+    ) -> Result<Result<&'a [String], Refusal<'a>>, OutOfMemory> {
+        let [_file, number, others @ ..] = words else {
+            return Ok(files_of(words).and(Err(Refusal::NoWord("MILLISECONDS"))));
         };
         let Some((by, is_earlier)) = milliseconds_of(number.as_str()) else {
-            return Ok(None);
+            return Ok(Err(Refusal::WrongWord(number.as_str(), "number of milliseconds")));
         };
-        self.request.drops |= drops;
         self.request.by = by;
         self.request.is_earlier = is_earlier;
-        let _name = file;
-        Ok(words.get(..1))
+        let rest = match others {
+            [word, rest @ ..] if word.as_str() == "drop" => {
+                self.request.drops = true;
+                rest
+            }
+            rest => rest,
+        };
+        Ok(match rest {
+            [word, ..] => Err(Refusal::ExtraWord(word.as_str())),
+            [] => Ok(&words[..1]),
+        })
     }
 
     fn read(

@@ -18,4 +18,4 @@ pub use form::{Form, NoForm, form_named, form_of, name_of, scheme_named};
 pub use outcome::{Outcome, Place};
 pub use program::{Program, run};
 pub use shown::{Quoted, Shown, ShownText, is_hidden};
-pub use words::{OptionWord, Refusal, Words, words_of};
+pub use words::{OptionWord, Refusal, Words, files_of, option_of_letter, words_of};

@@ -2,7 +2,7 @@
 
 use crate::outcome::Outcome;
 use crate::shown::ShownText;
-use crate::words::{OptionWord, Refusal, Words, words_of};
+use crate::words::{OptionWord, Refusal, Words, option_of_letter, words_of};
 use std::alloc::Global;
 use std::fmt::{Display, Write as FmtWrite};
 use std::io::{Read, Write};
@@ -34,12 +34,15 @@ pub trait Program: Drop {
     /// If an allocation fails.
     fn set(&mut self, option: usize, value: &str) -> Result<bool, OutOfMemory>;
 
-    /// Takes the words that are no files, and returns the files, or `None` if words are missing or too many.
+    /// Takes the words that are no files, and returns the files, or why the words are refused.
     ///
     /// # Errors
     ///
     /// If an allocation fails.
-    fn take_words<'a>(&mut self, words: &'a [String]) -> Result<Option<&'a [String]>, OutOfMemory>;
+    fn take_words<'a>(
+        &mut self,
+        words: &'a [String],
+    ) -> Result<Result<&'a [String], Refusal<'a>>, OutOfMemory>;
 
     /// Adds what the program writes for the bytes of a file.
     ///
@@ -66,6 +69,16 @@ enum Asked<'a> {
     Refused(Refusal<'a>),
 }
 
+// Gives a program its options of one letter.
+fn set_letters<P: Program>(program: &mut P, letters: &str) -> Result<(), OutOfMemory> {
+    for letter in letters.chars() {
+        if let Some(option) = option_of_letter(P::options(), letter) {
+            let _is_taken = program.set(option, "")?;
+        }
+    }
+    Ok(())
+}
+
 // Gives the options and the words to a program, and returns what the arguments ask for.
 fn parse<'a, P: Program>(
     program: &mut P,
@@ -87,16 +100,20 @@ fn parse<'a, P: Program>(
                 }
                 rest = others;
             }
+            Words::Letters(letters, others) => {
+                set_letters(program, letters)?;
+                rest = others;
+            }
             Words::Rest(words) => {
                 return Ok(match program.take_words(words)? {
-                    Some(files) => Asked::Files(files),
-                    None => Asked::Refused(Refusal::Words),
+                    Ok(files) => Asked::Files(files),
+                    Err(refusal) => Asked::Refused(refusal),
                 });
             }
             Words::Refused(refusal) => return Ok(Asked::Refused(refusal)),
         }
     }
-    Ok(Asked::Refused(Refusal::Words))
+    Ok(Asked::Refused(Refusal::NoWord("FILE")))
 }
 
 // Writes a line on standard error. A failure is ignored.

@@ -2,6 +2,7 @@
 
 use crate::shown::ShownText;
 use std::fmt;
+use std::iter::once;
 
 /// An option of a program.
 #[derive(Clone, Copy)]
@@ -21,8 +22,12 @@ pub enum Refusal<'a> {
     NoValue(&'a str),
     /// The option has no such value.
     WrongValue(&'a str, &'a str),
-    /// A word is missing or too much.
-    Words,
+    /// A word of this kind is missing.
+    NoWord(&'static str),
+    /// A word is nothing of this kind.
+    WrongWord(&'a str, &'static str),
+    /// The word is one too many.
+    ExtraWord(&'a str),
 }
 
 impl fmt::Display for Refusal<'_> {
@@ -34,7 +39,9 @@ impl fmt::Display for Refusal<'_> {
                 let (word, value) = (ShownText(word), ShownText(value));
                 write!(f, "'{word}' has no value '{value}'")
             }
-            Refusal::Words => f.write_str("wrong arguments"),
+            Refusal::NoWord(kind) => write!(f, "{kind} is missing"),
+            Refusal::WrongWord(word, kind) => write!(f, "'{}' is no {kind}", ShownText(word)),
+            Refusal::ExtraWord(word) => write!(f, "'{}' is one word too many", ShownText(word)),
         }
     }
 }
@@ -43,6 +50,8 @@ impl fmt::Display for Refusal<'_> {
 pub enum Words<'a> {
     /// The option of this index, its name, its value or an empty one, and the arguments after it.
     Option(usize, &'a str, &'a str, &'a [String]),
+    /// Options of one letter in one argument, without the dash, and the arguments after it.
+    Letters(&'a str, &'a [String]),
     /// No more options: the words.
     Rest(&'a [String]),
     /// An argument that is refused.
@@ -65,6 +74,43 @@ fn is_option(argument: &str) -> bool {
     chars.next() == Some('-') && chars.next().is_some_and(|c| !c.is_ascii_digit())
 }
 
+/// Returns the index of the option whose name is a dash and this letter, if it has no value.
+pub fn option_of_letter(options: &[OptionWord], letter: char) -> Option<usize> {
+    options.iter().position(|option| {
+        !option.has_value
+            && option
+                .name
+                .strip_prefix('-')
+                .is_some_and(|name| name.chars().eq(once(letter)))
+    })
+}
+
+// Returns the letters of an argument such as `-ni`, if each of them is an option.
+fn letters_of<'a>(options: &[OptionWord], argument: &'a str) -> Option<&'a str> {
+    let letters = argument.strip_prefix('-')?;
+    if letters
+        .chars()
+        .all(|letter| option_of_letter(options, letter).is_some())
+    {
+        Some(letters)
+    } else {
+        None
+    }
+}
+
+/// Returns the words, which are files.
+///
+/// # Errors
+///
+/// If there are none.
+pub fn files_of(words: &[String]) -> Result<&[String], Refusal<'_>> {
+    if words.is_empty() {
+        Err(Refusal::NoWord("FILE"))
+    } else {
+        Ok(words)
+    }
+}
+
 /// Returns what the arguments begin with. `--` ends the options.
 pub fn words_of<'a>(options: &[OptionWord], arguments: &'a [String]) -> Words<'a> {
     let [argument, others @ ..] = arguments else {
@@ -78,7 +124,10 @@ pub fn words_of<'a>(options: &[OptionWord], arguments: &'a [String]) -> Words<'a
         return Words::Rest(arguments);
     }
     let Some((index, has_value)) = option_named(options, argument) else {
-        return Words::Refused(Refusal::UnknownOption(argument));
+        return match letters_of(options, argument) {
+            Some(letters) => Words::Letters(letters, others),
+            None => Words::Refused(Refusal::UnknownOption(argument)),
+        };
     };
     if !has_value {
         return Words::Option(index, argument, "", others);

@@ -74,11 +74,14 @@ fn offsets_call(name: &str, words: &mut Words<'_>) -> Result<Option<Call>, Damag
     }))
 }
 
-// Returns `indexOf` with its arguments.
+// Returns `indexOf` with its arguments. Without any, JavaScript looks for the text of `undefined`.
 fn index_of_call(
     alloc: Global,
     words: &mut Words<'_>,
 ) -> Result<Result<Call, Damage>, OutOfMemory> {
+    if words.is_empty() {
+        return Ok(Ok(Call::IndexOf(U16String::from_str(alloc, "undefined")?, 0)));
+    }
     let needle = match take_units(alloc, words)? {
         Ok(needle) => needle,
         Err(damage) => return Ok(Err(damage)),
