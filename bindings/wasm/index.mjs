@@ -40,6 +40,8 @@ const AT_FAULT = 2;
 const CONVERTER = { length: 112, read: 0, kept: 8, bytes: 16, items: 24, faults: 32, fault: 40, end: 60 };
 const PIECE = 16384;
 const SPACE = 4 * PIECE + 128;
+/** How many units are looked at for a fault at first. */
+const WINDOW = 64;
 
 /** The size of a unit, of a name of the C library. */
 function widthOf(name) {
@@ -49,7 +51,11 @@ function widthOf(name) {
 /** Returns a text as an array of units of this size. */
 function unitsOf(text, width) {
     if (typeof text === "string" && width === 2) {
-        return Uint16Array.from({ length: text.length }, (_, index) => text.charCodeAt(index));
+        const units = new Uint16Array(text.length);
+        for (let index = 0; index < units.length; index += 1) {
+            units[index] = text.charCodeAt(index);
+        }
+        return units;
     }
     const kind = ARRAYS[width];
     if (!(text instanceof kind)) {
@@ -248,18 +254,26 @@ export class Widestring {
         const units = unitsOf(text, 2);
         const items = [];
         let offset = 0;
+        // As many units are looked at as were passed without a fault, so that the time is linear.
+        let window = WINDOW;
         while (offset < units.length) {
-            const rest = units.subarray(offset);
-            const fault = this.utf16FirstFault(rest);
-            for (const value of this.utf16ToUtf32(rest.subarray(0, fault ?? rest.length))) {
+            const end = Math.min(units.length, offset + window);
+            const part = units.subarray(offset, end);
+            const fault = this.utf16FirstFault(part);
+            for (const value of this.utf16ToUtf32(part.subarray(0, fault ?? part.length))) {
                 const length = value > 0xffff ? 2 : 1;
                 items.push({ offset, length, isFault: false, value });
                 offset += length;
             }
-            if (fault !== undefined) {
-                items.push({ offset, length: 1, isFault: true, value: units[offset] });
-                offset += 1;
+            // The last unit of a part may be the first half of a pair.
+            const mayGoOn = offset === end - 1 && end < units.length && (units[offset] & 0xfc00) === 0xd800;
+            if (fault === undefined || mayGoOn) {
+                window = Math.min(2 * window, PIECE);
+                continue;
             }
+            items.push({ offset, length: 1, isFault: true, value: units[offset] });
+            offset += 1;
+            window = WINDOW;
         }
         return items;
     }
@@ -355,7 +369,11 @@ export async function load(source = new URL("widestring.wasm", import.meta.url))
         if (url.protocol === "file:" && globalThis.process?.versions?.node) {
             bytes = await (await import("node:fs/promises")).readFile(url);
         } else {
-            bytes = await (await fetch(url)).arrayBuffer();
+            const response = await fetch(url);
+            if (!response.ok) {
+                throw new Error(`${url}: ${response.status} ${response.statusText}`);
+            }
+            bytes = await response.arrayBuffer();
         }
     }
     return new Widestring((await WebAssembly.instantiate(bytes, {})).instance);

@@ -103,6 +103,12 @@ assert.deepEqual(wide.utf16ToUtf8(long), utf8.encode(long));
 assert.equal(wide.toString16(wide.utf8ToUtf16(utf8.encode(long))), long);
 assert.equal(Buffer.from(before).toString(), "kept");
 assert.throws(() => wide.utf16ToUtf8(new Uint16Array(2 ** 28)), RangeError);
+// Items across the parts in which a text is looked at, and of faults alone.
+for (let length = 60; length < 200; length += 1) {
+    const text = "a".repeat(length) + "\ud83d\ud83d\ude00".repeat(60) + "\ud83d";
+    assert.deepEqual(wide.utf16Items(text).map((it) => it.value), [...text].map((it) => it.codePointAt(0)));
+}
+assert.ok(wide.utf16Items("\ude00".repeat(300_000)).every((it) => it.isFault));
 assert.equal(wide.utf16FloorCharBoundary("a\ud83d\ude00", 2), 1);
 assert.throws(() => wide.utf16ToUtf8(new Uint8Array(2)), TypeError);
 assert.throws(() => wide.utf16ToUtf8("", 3), RangeError);

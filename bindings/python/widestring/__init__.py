@@ -22,8 +22,8 @@ strides is read in the order of its indices.
 A conversion raises MemoryError if there is no memory for its result.
 
 The shared library is the one that WIDESTRING_LIBRARY names, or the one beside the module, or one that the system's
-loader finds. ImportError is raised if there is none, or if it has another version. The module requires CPython 3.7 or later, since it writes into
-bytes objects that are not filled first.
+loader finds. ImportError is raised if there is none, or if it has another version. The module requires CPython 3.7 or
+later, since it writes into bytes objects that are not filled first.
 """
 
 from __future__ import annotations
