@@ -102,16 +102,12 @@ def lines_of(units, at_return):
         lines.append(line)
     if not at_return:
         return lines
-    parts = []
-    for line in lines:
-        parts.append([])
-        # A carriage return at the end of a line ends it too, and begins no other one.
-        for unit in line[:-1] if line[-1:] == [13] else line:
-            if unit == 13:
-                parts.append([])
-            else:
-                parts[-1].append(unit)
-    return parts
+    ends = [at for at in range(len(units)) if ends_line(units, at, True)]
+    starts = [0, *(at + 1 for at in ends)]
+    lines = [units[start : end] for start, end in zip(starts, [*ends, len(units)])]
+    # The carriage return of both belongs to the end. Behind the last end there is no line.
+    lines = [line[:-1] if end < len(units) and units[end] == 10 and line[-1:] == [13] else line for line, end in zip(lines, [*ends, len(units)])]
+    return lines if lines[-1] else lines[:-1]
 
 
 def lower(units):
@@ -131,11 +127,15 @@ def offsets_of(line, word, any_case):
     return offsets
 
 
-def place_of(units, at):
+def ends_line(units, at, at_return):
+    """Returns whether a line ends behind a unit."""
+    return units[at] == 10 or at_return and units[at] == 13 and units[at + 1 : at + 2] != [10]
+
+
+def place_of(units, at, at_return):
     """Returns the line and the unit of an offset."""
-    before = units[:at]
-    start = max((index + 1 for index, unit in enumerate(before) if unit == 10), default=0)
-    return f"line {before.count(10) + 1}, unit {at - start}"
+    ends = [index for index in range(at) if ends_line(units, index, at_return)]
+    return f"line {len(ends) + 1}, unit {at - (ends[-1] + 1 if ends else 0)}"
 
 
 def read(options, word, data):
@@ -166,7 +166,7 @@ def read(options, word, data):
             first = f"{number}:" if "-n" in options else ""
             places = ",".join(map(str, offsets)) + ":" if "-b" in options else ""
             printed.append(first + places + shown(line))
-    return printed, [f"{place_of(units, at)}: {what}" for at, what in bad], not bad
+    return printed, [f"{place_of(units, at, '--cr' in options)}: {what}" for at, what in bad], not bad
 
 
 def run(options, word, files):
@@ -190,6 +190,9 @@ FILES = [
     ("where it is in them", {"-b": True, "-i": True}, "lantern", TEXT.encode("utf-16")),
     ("a carriage return alone", {"-n": True, "--cr": True}, "l", "al\rbl\r\ncl\n\rdl\r".encode("utf-16")),
     ("and without the option", {"-n": True}, "l", "al\rbl\r\ncl\n\rdl\r".encode("utf-16")),
+    ("an empty line between carriage returns", {"-n": True, "--cr": True}, "", "a\r\r\nb\r\rc\n\r\n\r".encode("utf-16")),
+    ("bytes that are no text behind a carriage return", {"--form": "UTF-8", "--cr": True, "-n": True}, "b", b"a\rb\xff\r\nb\n\xffb\r\xff"),
+    ("and without the option", {"--form": "UTF-8", "-n": True}, "b", b"a\rb\xff\r\nb\n\xffb\r\xff"),
     ("no such line", {}, "squid", TEXT.encode("utf-16")),
     ("an empty word", {"-n": True, "-b": True}, "", "ab\n\nc".encode("utf-16")),
     ("an empty file", {}, "a", b""),

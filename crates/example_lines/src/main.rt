@@ -4,6 +4,8 @@
 //! and what it looks like is said. The status is 0 if a line was found, 1 if none was, and 2 after an error.
 #![tactic(auto)]
 
+ghost use Rattle.std.specs.Prelude.{◌≡◌, false, true, if◌then◌else◌};
+
 use std::alloc::{AllocError, Global};
 use std::fmt::Write;
 use std::process::ExitCode;
@@ -61,6 +63,9 @@ For the file - it reads standard input. The exit status is 0 if a line was found
 
 // A line feed, which ends a line.
 const FEED: u16 = b'\n' as u16;
+
+// A carriage return, which ends a line by itself with `--cr`.
+const RETURN: u16 = b'\r' as u16;
 
 // Returns the form of UTF-16 with this order of bytes.
 fn form_in_order(order: &str) -> Option<Form> {
@@ -138,6 +143,15 @@ impl Lines {
         writeln!(outcome.output, "{}", Shown(line))
     }
 
+    // Returns whether a line ends behind the unit at an offset.
+    fn ends_line(&self, units: &[u16], at: usize) -> bool {
+        match units.get(at) {
+            Some(&FEED) => true,
+            Some(&RETURN) if self.ends_at_return => units.get(at.saturating_add(1)) != Some(&FEED),
+            _ => false,
+        }
+    }
+
     // Reports the bytes that are no text, with their lines.
     fn report_bad(
         &mut self,
@@ -147,11 +161,10 @@ impl Lines {
         let mut line: usize = 1;
         let (mut start, mut from) = (0usize, 0usize);
         for bad in &document.bad {
-            let between = document.units.get(from..bad.unit).unwrap_or_default();
-            for (at, unit) in between.iter().enumerate() {
-                if *unit == FEED {
+            for at in from..bad.unit {
+                if self.ends_line(&document.units, at) {
                     line = line.saturating_add(1);
-                    start = from.saturating_add(at).saturating_add(1);
+                    start = at.saturating_add(1);
                 }
             }
             from = bad.unit;
@@ -162,19 +175,35 @@ impl Lines {
         Ok(())
     }
 
+    // Prints those of some lines that have the word, and returns the number of the last one.
+    fn read_lines<'a, I: Iterator<Item = U16Str<'a>> + Drop>(
+        &mut self,
+        outcome: &mut Outcome<'_>,
+        lines: I,
+        before: usize,
+    ) -> Result<usize, AllocError> {
+        let mut number = before;
+        for line in lines {
+            number = number.saturating_add(1);
+            self.read_line(outcome, number, line)?;
+        }
+        Ok(number)
+    }
+
     // Prints the lines of a text that have the word.
     fn read_text(&mut self, outcome: &mut Outcome<'_>, text: U16Str<'_>) -> Result<(), AllocError> {
-        let mut number: usize = 0;
-        for line in text.lines_lossy() {
-            if self.ends_at_return && !line.is_empty() {
-                for part in line.split_terminator_char('\r') {
-                    number = number.saturating_add(1);
-                    self.read_line(outcome, number, part)?;
-                }
+        if !self.ends_at_return {
+            let _count = self.read_lines(outcome, text.lines_lossy(), 0)?;
+            return Ok(());
+        }
+        let mut number = 0;
+        for (start, line) in text.line_indices_lossy() {
+            // Behind a carriage return at the end of the text there is no line.
+            number = if start.saturating_add(line.len()) < text.len() {
+                self.read_lines(outcome, line.split_char('\r'), number)?
             } else {
-                number = number.saturating_add(1);
-                self.read_line(outcome, number, line)?;
-            }
+                self.read_lines(outcome, line.split_terminator_char('\r'), number)?
+            };
         }
         Ok(())
     }
@@ -238,7 +267,11 @@ impl Program for Lines {
         Ok(self.read_text(outcome, U16Str::from_slice(&document.units))?)
     }
 
-    fn status(&self, _reported: bool, failed: bool) -> u8 {
+    fn status(&self, _reported: bool, failed: bool) -> u8
+        ensures failed { failed ≡ true → result ≡ 2 }
+        ensures unread { self.now.unread ≡ true → result ≡ 2 }
+        ensures found { failed ≡ false → self.now.unread ≡ false → result ≡ if self.now.found then 0 else 1 }
+    {
         if failed || self.unread {
             2
         } else {

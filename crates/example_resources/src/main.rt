@@ -9,6 +9,8 @@
 //! a file could not be read, and 2 after a usage error.
 #![tactic(auto)]
 
+ghost use Rattle.std.specs.Prelude.{◌≡◌, true, if◌then◌else◌};
+
 mod texts;
 
 use std::alloc::Global;
@@ -94,8 +96,10 @@ impl Program for Resources {
         Texts::new(alloc, self.options).read(bytes, outcome)
     }
 
-    fn status(&self, reported: bool, failed: bool) -> u8 {
-        u8::from(reported | failed)
+    fn status(&self, reported: bool, failed: bool) -> u8
+        ensures { result ≡ if reported then 1 else if failed then 1 else 0 }
+    {
+        u8::from(reported || failed)
     }
 }
 

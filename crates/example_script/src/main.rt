@@ -3,6 +3,8 @@
 //! The status is 0, or 1 if anything was reported, or 2 after a usage error.
 #![tactic(auto)]
 
+ghost use Rattle.std.specs.Prelude.{◌≡◌, true, if◌then◌else◌};
+
 use std::alloc::{AllocError, Global};
 use std::fmt::Write;
 use std::process::ExitCode;
@@ -137,8 +139,10 @@ impl Program for Script {
         Ok(())
     }
 
-    fn status(&self, reported: bool, failed: bool) -> u8 {
-        u8::from(reported | failed)
+    fn status(&self, reported: bool, failed: bool) -> u8
+        ensures { result ≡ if reported then 1 else if failed then 1 else 0 }
+    {
+        u8::from(reported || failed)
     }
 }
 

@@ -7,6 +7,8 @@
 //! as well do not change it. It is 2 after a usage error.
 #![tactic(auto)]
 
+ghost use Rattle.std.specs.Prelude.{◌≡◌, true, if◌then◌else◌};
+
 mod subtitles;
 
 use std::alloc::Global;
@@ -181,8 +183,10 @@ impl Program for Moving {
         Ok(())
     }
 
-    fn status(&self, reported: bool, failed: bool) -> u8 {
-        u8::from(reported | failed)
+    fn status(&self, reported: bool, failed: bool) -> u8
+        ensures { result ≡ if reported then 1 else if failed then 1 else 0 }
+    {
+        u8::from(reported || failed)
     }
 }
 

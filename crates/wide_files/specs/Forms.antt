@@ -1,6 +1,9 @@
 -- The names of encoding schemes.
 use Rattle.std.specs.Prelude.{◌≡◌, ℕ, List, map, codes}
 use Rattle.std.specs.Char.{to_ascii_lowercase}
+use Rattle.wide_files.specs.Boms.{bom_len}
+use Rattle.wide_files.specs.declared.form.Form.{Form}
+use Rattle.wide_files.specs.declared.form.Form.TheVariants.{Unicode, Windows}
 use Rattle.wide_schemes.specs.declared.scheme.Scheme.{Scheme}
 use Rattle.wide_schemes.specs.declared.scheme.Scheme.TheVariants.{Utf8, Wtf8, Utf16Le, Utf16Be, Utf16, Utf32Le, Utf32Be, Utf32}
 
@@ -18,3 +21,8 @@ name_of Wtf8 = codes "WTF-8"
 -- Both are the same but for the case of ASCII letters.
 abbrev pub IsSameInAnyCase : List ℕ → List ℕ → Type 0
 IsSameInAnyCase word other = map to_ascii_lowercase word ≡ map to_ascii_lowercase other
+
+-- The length of the BOM that a text in a form begins with. A code page has none.
+abbrev pub form_bom_len : Form → List ℕ → ℕ
+form_bom_len (Unicode scheme) bytes = bom_len scheme bytes
+form_bom_len (Windows page) bytes = 0

@@ -1,7 +1,7 @@
 //! Which form a text has, by its BOM, and which one it looks like.
 
 ghost use Rattle.std.specs.Prelude.{◌≡◌};
-ghost use Rattle.wide_files.specs.Boms.{scheme_by_bom};
+ghost use Rattle.wide_files.specs.Boms.{bom_in, bom_len, scheme_by_bom};
 
 use wide_schemes::Scheme;
 
@@ -18,17 +18,26 @@ pub fn scheme_by_bom(bytes: &[u8]) -> Option<(Scheme, usize)>
     }
 }
 
+// Returns U+FEFF in a scheme whose order of bytes is known.
+fn bom_in(scheme: Scheme) -> &'static [u8]
+    ensures { result.now ≡ bom_in scheme }
+{
+    match scheme {
+        Scheme::Utf8 | Scheme::Wtf8 => &[0xef, 0xbb, 0xbf],
+        Scheme::Utf16Le => &[0xff, 0xfe],
+        Scheme::Utf16Be => &[0xfe, 0xff],
+        Scheme::Utf32Le => &[0xff, 0xfe, 0, 0],
+        Scheme::Utf32Be => &[0, 0, 0xfe, 0xff],
+        Scheme::Utf16 | Scheme::Utf32 => &[],
+    }
+}
+
 /// Returns the length in bytes of the BOM with which a text in a scheme begins, or 0. That of UTF-16 and UTF-32 says in
 /// which order their units are, and is read with them.
-pub fn bom_len(bytes: &[u8], scheme: Scheme) -> usize {
-    let bom: &[u8] = match scheme {
-        Scheme::Utf8 | Scheme::Wtf8 => b"\xef\xbb\xbf",
-        Scheme::Utf16Le => b"\xff\xfe",
-        Scheme::Utf16Be => b"\xfe\xff",
-        Scheme::Utf32Le => b"\xff\xfe\0\0",
-        Scheme::Utf32Be => b"\0\0\xfe\xff",
-        Scheme::Utf16 | Scheme::Utf32 => b"",
-    };
+pub fn bom_len(bytes: &[u8], scheme: Scheme) -> usize
+    ensures { result ≡ bom_len scheme bytes.now }
+{
+    let bom = bom_in(scheme);
     if bytes.starts_with(bom) { bom.len() } else { 0 }
 }
 

@@ -1,8 +1,10 @@
 //! The forms of files of text, and their names.
 
-ghost use Rattle.std.specs.Prelude.{◌≡◌, ◌↔◌, IfNone, IfOk, IfSome, IsTrue, Some};
-ghost use Rattle.wide_files.specs.Forms.{IsSameInAnyCase, name_of};
+ghost use Rattle.std.specs.Prelude.{◌≡◌, ◌↔◌, ℕ, IfNone, IfOk, IfSome, IsTrue, None, Ok, Some};
+ghost use Rattle.wide_files.specs.Boms.{scheme_by_bom};
+ghost use Rattle.wide_files.specs.Forms.{IsSameInAnyCase, form_bom_len, name_of};
 ghost use Rattle.wide_files.specs.declared.form.Form.{Form};
+ghost use Rattle.wide_files.specs.declared.form.Form.TheVariants.{Unicode};
 ghost use Rattle.wide_schemes.specs.declared.scheme.Scheme.{Scheme};
 
 use crate::beginning::{bom_len, looks_like, scheme_by_bom};
@@ -130,7 +132,9 @@ impl fmt::Display for NoForm {
 ///
 /// What the file looks like.
 pub fn form_of(bytes: &[u8], asked: Option<Form>, usual: Scheme) -> Result<(Form, usize), NoForm>
-    ensures asked { (form : Form) → asked ≡ Some form → IfOk result (λ found. found.0 ≡ form) }
+    ensures asked { (form : Form) → asked ≡ Some form → result ≡ Ok (form, form_bom_len form bytes.now) }
+    ensures bom { (found : Scheme × ℕ) → asked ≡ None → scheme_by_bom bytes.now ≡ Some found → result ≡ Ok (Unicode found.0, found.1) }
+    ensures no_bom { asked ≡ None → scheme_by_bom bytes.now ≡ None → IfOk result (λ found. found ≡ (Unicode usual, 0)) }
 {
     if let Some(form) = asked {
         let len = match form {
