@@ -1,7 +1,6 @@
 -- A time, an arrow and a line of times, by the offsets of their parts.
-use Rattle.std.proofs.Common.{◌≡◌, ◌↔◌, ◌⊎◌, ◌+◌, ◌-◌, ◌*◌, ◌^◌, ◌<◌, ◌≤◌, ℕ, Bool, true, false, not, ◌&&◌, ◌||◌, cond, eqb, leb, List, [], ◌∷◌, ◌++◌, Option, Some, None, length, take, drop, refl, sym, ap, ◌∙◌, subst, inl, inr, arith, add-zero, append_assoc, codes, length-append, length-drop, drop-drop, drop_at, append-nil, lit<}
+use Rattle.std.proofs.Common.{◌≡◌, ◌↔◌, ◌⊎◌, ◌+◌, ◌-◌, ◌*◌, ◌^◌, ◌≤◌, ℕ, Bool, true, false, eqb, List, [], ◌∷◌, ◌++◌, Some, length, drop, refl, sym, ap, ◌∙◌, subst, inl, inr, arith, add-zero, append_assoc, codes, length-append, length-drop, drop-drop, drop_at}
 use Rattle.std.specs.List.{AllPass, slice_get}
-use Rattle.std.specs.Prelude.{IfSome, IsSome, unwrap_or}
 use Rattle.std.proofs.lemmas.Bool.{eqb-true, false_from_ne_true, false≢true, or_cases}
 use Rattle.std.proofs.lemmas.List.Elements.{All-head}
 use Rattle.std.proofs.lemmas.Option.{same_Some}

@@ -1,5 +1,5 @@
 -- What the steps of reading a time, an arrow or a line have shown, and what follows where one fails.
-use Rattle.std.proofs.Common.{◌≡◌, ◌↔◌, ◌⊎◌, ◌+◌, ◌-◌, ◌*◌, ◌^◌, ◌<◌, ◌≤◌, ℕ, Bool, true, false, List, [], ◌∷◌, ◌++◌, Option, Some, None, length, drop, refl, sym, ap, ◌∙◌, subst, inl, inr, arith, add-zero, zero-add, get_or}
+use Rattle.std.proofs.Common.{◌≡◌, ◌↔◌, ◌⊎◌, ◌+◌, ◌-◌, ◌*◌, ◌^◌, ℕ, Bool, true, false, List, Option, Some, None, length, drop, sym, ap, ◌∙◌, inl, inr, arith, add-zero, zero-add, get_or}
 use Rattle.std.specs.List.{slice_get}
 use Rattle.std.specs.Prelude.{IfNone, IfSome, IsSome, is_some, unwrap_or}
 use Rattle.std.proofs.lemmas.Bool.{false≢true}
@@ -7,7 +7,7 @@ use Rattle.std.proofs.lemmas.Option.{get_or_from_slice_get}
 use Rattle.wide_subtitles.specs.Times.{HasArrow, HasTime, IsLineEnd, IsNumber, IsTimesLine, is_usual, sign_of}
 use Rattle.wide_subtitles.specs.declared.time.Time.{Time}
 use Rattle.wide_subtitles.specs.declared.times.Times.{Times}
-use Rattle.wide_subtitles.proofs.Parts.{ArrowAt, LineAt, TimeAt, arrow_from_parts, blanks_at, digits_at, line_from_parts, one_arrow, one_time, parts_from_arrow, parts_from_line, parts_from_time, same_test}
+use Rattle.wide_subtitles.proofs.Parts.{LineAt, TimeAt, arrow_from_parts, blanks_at, digits_at, line_from_parts, one_arrow, one_time, parts_from_arrow, parts_from_line, parts_from_time, same_test}
 
 -- What holds of nothing.
 pub if_none : {A P : Type 0} (o : Option A) → P → IfNone o P

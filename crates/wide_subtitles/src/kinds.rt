@@ -1,9 +1,13 @@
 //! What a line is by itself.
 
-ghost use Rattle.std.specs.Prelude.{◌≤◌, IfSome, length};
-ghost use Rattle.wide_subtitles.specs.Kinds.{times_in};
+ghost use Rattle.std.specs.Prelude.{◌≡◌, ◌≤◌, ◌↔◌, ℕ, IfSome, IsTrue, Some, length};
+ghost use Rattle.std.specs.List.{AllPass, take_while};
+ghost use Rattle.wide_subtitles.specs.Kinds.{IsNumberLine, is_padding, is_white, times_in};
+ghost use Rattle.wide_subtitles.specs.Times.{IsTimesLine, is_digit};
+ghost use Rattle.wide_subtitles.specs.declared.kinds.Kind.TheVariants.{Blank, Broken, Number};
+ghost use Rattle.wide_subtitles.specs.declared.times.Times.{Times};
 
-use crate::times::{Times, times_of};
+use crate::times::{Times, digits_len, times_of};
 
 /// What a line is.
 #[derive(Clone, Copy, Debug, PartialEq, Eq)]
@@ -21,29 +25,51 @@ pub enum Kind {
 }
 
 // Returns whether a unit is a space, a tab, or another control that nothing shows.
-fn is_blank(unit: u16) -> bool {
+fn is_white(unit: u16) -> bool
+    ensures { result ≡ is_white unit }
+{
     matches!(unit, 9 | 0xb | 0xc | 0x20)
 }
 
-// Returns whether a unit is a blank, or one of a wide or hidden kind, which some writers leave beside a number.
-fn is_padding(unit: u16) -> bool {
-    is_blank(unit)
+// Returns whether a unit is white space, or one of a wide or hidden kind, which some writers leave beside a number.
+fn is_padding(unit: u16) -> bool
+    ensures { result ≡ is_padding unit }
+{
+    is_white(unit)
         || matches!(
             unit,
             0xa0 | 0x200e | 0x200f | 0x202a..=0x202e | 0x3000 | 0xfeff
         )
 }
 
-// Returns the units without padding at both ends.
-fn trimmed(units: &[u16]) -> &[u16] {
-    let before = units.iter().take_while(|unit| is_padding(**unit)).count();
-    let rest = units.get(before..).unwrap_or_default();
-    let after = rest
-        .iter()
-        .rev()
-        .take_while(|unit| is_padding(**unit))
-        .count();
-    &rest[..rest.len().saturating_sub(after)]
+// Returns how much padding units begin with.
+fn padding_len(units: &[u16]) -> usize
+    ensures { result ≡ length (take_while is_padding units.now) }
+{
+    units.iter().take_while(|unit| is_padding(**unit)).count()
+}
+
+// Returns whether all units are white space.
+fn is_blank(units: &[u16]) -> bool
+    ensures { IsTrue result ↔ AllPass is_white units.now }
+{
+    units.iter().all(|unit| is_white(*unit))
+}
+
+// Returns whether all units are padding.
+fn is_only_padding(units: &[u16]) -> bool
+    ensures { IsTrue result ↔ AllPass is_padding units.now }
+{
+    units.iter().all(|unit| is_padding(*unit))
+}
+
+// Returns whether units are a number, with padding before and behind it.
+fn is_number(units: &[u16]) -> bool
+    ensures { IsTrue result ↔ IsNumberLine units.now }
+{
+    let rest = &units[padding_len(units)..];
+    let digits = digits_len(rest);
+    digits > 0 && is_only_padding(&rest[digits..])
 }
 
 // Returns whether the units have an arrow.
@@ -86,13 +112,16 @@ fn seems_times(units: &[u16]) -> bool {
 
 /// Returns what a line is.
 pub fn kind_of(units: &[u16]) -> Kind
+    ensures times { (times : Times) → (times_in result ≡ Some times) ↔ IsTimesLine units.now times }
+    ensures blank { (result ≡ Blank) ↔ AllPass is_white units.now }
+    ensures number { (result ≡ Number) ↔ IsNumberLine units.now }
+    ensures broken { (unit : ℕ) → result ≡ Broken unit → unit ≤ length units.now }
     ensures ordered { IfSome (times_in result) (λ times. (times.first_end ≤ times.second_end) × (times.second_end ≤ length units.now)) }
 {
-    if units.iter().all(|unit| is_blank(*unit)) {
+    if is_blank(units) {
         return Kind::Blank;
     }
-    let content = trimmed(units);
-    if !content.is_empty() && content.iter().all(|unit| (0x30..=0x39).contains(unit)) {
+    if is_number(units) {
         return Kind::Number;
     }
     match times_of(units) {

@@ -59,8 +59,8 @@ fn blanks_len(units: &[u16]) -> usize
     units.iter().take_while(|unit| is_blank(**unit)).count()
 }
 
-// Returns how many digits units begin with.
-fn digits_len(units: &[u16]) -> usize
+/// Returns how many digits units begin with.
+pub fn digits_len(units: &[u16]) -> usize
     ensures { result ≡ length (digits_of units.now) }
 {
     units.iter().take_while(|unit| is_digit(**unit)).count()

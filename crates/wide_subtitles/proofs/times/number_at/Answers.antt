@@ -1,4 +1,4 @@
-use Rattle.std.proofs.Common.{arith, refl, ◌≡◌, ◌<◌, ◌≤◌, drop, length}
+use Rattle.std.proofs.Common.{arith, refl, ◌<◌, ◌≤◌, drop, length}
 use Rattle.std.proofs.lemmas.Grind.{common_steps}
 use Rattle.wide_subtitles.specs.Times.{digits_of, is_digit, number}
 use Rattle.wide_subtitles.proofs.Fronts.{front_passes}

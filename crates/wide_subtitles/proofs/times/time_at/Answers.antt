@@ -1,5 +1,5 @@
-use Rattle.std.proofs.Common.{◌≡◌, ◌+◌, ◌*◌, ◌-◌, ◌^◌, ℕ, refl, ap, ◌∙◌, arith, get_or, length}
-use Rattle.wide_subtitles.proofs.Parts.{TimeAt, time_from_parts}
+use Rattle.std.proofs.Common.{refl, ◌∙◌, get_or}
+use Rattle.wide_subtitles.proofs.Parts.{time_from_parts}
 use Rattle.wide_subtitles.proofs.Readings.{begun, if_none, no_hours, no_minutes, no_point, no_rest, no_seconds, form_read, point_read, rest_read, size_read, start_of}
 use Rattle.wide_subtitles.proofs.times.time_at.Goals as goal
 
