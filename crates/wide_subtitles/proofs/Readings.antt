@@ -4,7 +4,7 @@ use Rattle.std.specs.List.{slice_get}
 use Rattle.std.specs.Prelude.{IfNone, IfSome, IsSome, is_some, unwrap_or}
 use Rattle.std.proofs.lemmas.Bool.{false≢true}
 use Rattle.std.proofs.lemmas.Option.{get_or_from_slice_get}
-use Rattle.wide_subtitles.specs.Times.{HasArrow, HasTime, IsLineEnd, IsNumber, IsTimesLine, is_usual, sign_of}
+use Rattle.wide_subtitles.specs.Times.{BeginsTime, HasArrow, HasTime, IsLineEnd, IsNumber, IsTimesLine, blanks_of, is_usual, sign_of}
 use Rattle.wide_subtitles.specs.declared.time.Time.{Time}
 use Rattle.wide_subtitles.specs.declared.times.Times.{Times}
 use Rattle.wide_subtitles.proofs.Parts.{LineAt, TimeAt, arrow_from_parts, blanks_at, digits_at, line_from_parts, one_arrow, one_time, parts_from_arrow, parts_from_line, parts_from_time, same_test}
@@ -165,3 +165,12 @@ rest_read e f g = rw (f, g) at e
 -- The form of parts.
 pub form_read : (negative : Bool) (point : ℕ) {form : Bool} {a b c d hours minutes seconds rest : ℕ} → form ≡ is_usual negative a b c point d → a ≡ hours → b ≡ minutes → c ≡ seconds → d ≡ rest → form ≡ is_usual negative hours minutes seconds point rest
 form_read negative point e f g h i = rw (f, g, h, i) at e
+
+-- Whether a time was read at the beginning.
+pub begins_read : {A : Type 0} (units : List ℕ) (first : ℕ) (end_of : A → ℕ) (time_of : A → Time) (r : Option A) (b : Bool) → first ≡ 0 + length (blanks_at units 0) → b ≡ is_some r → IfSome r (λ read. HasTime units first (end_of read) (time_of read)) → IfNone r ((end : ℕ) (time : Time) → ¬ (HasTime units first end time)) → (b ≡ true) ↔ BeginsTime units
+begins_read units first end_of time_of (Some read) b e f some none =
+    let at : first ≡ length (blanks_of units) = e ∙ zero-add (length (blanks_at units 0)) in
+    (λ h. record { end = end_of read; time = time_of read; is_time = rw at at some }, λ h. f)
+begins_read units first end_of time_of None b e f some none =
+    let at : first ≡ length (blanks_of units) = e ∙ zero-add (length (blanks_at units 0)) in
+    (λ h. absurd (false≢true (sym f ∙ h)), λ h. absurd (none h.end h.time (rw at h.is_time)))

@@ -76,6 +76,12 @@ pub record HasTime (units : List ℕ) (at end : ℕ) (time : Time) : Type 0 wher
   pub is_time : IsTime first time
   pub stops : begins_with is_digit rest ≡ false
 
+-- A time stands at the beginning, but for blanks.
+pub record BeginsTime (units : List ℕ) : Type 0 where
+  pub end : ℕ
+  pub time : Time
+  pub is_time : HasTime units (length (blanks_of units)) end time
+
 -- An arrow stands in the units from an offset to another, with the blanks before and behind it.
 pub record HasArrow (units : List ℕ) (at end : ℕ) : Type 0 where
   pub gap : List ℕ

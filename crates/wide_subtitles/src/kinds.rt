@@ -1,13 +1,13 @@
 //! What a line is by itself.
 
-ghost use Rattle.std.specs.Prelude.{◌≡◌, ◌≤◌, ◌↔◌, ℕ, IfSome, IsTrue, Some, length};
-ghost use Rattle.std.specs.List.{AllPass, take_while};
-ghost use Rattle.wide_subtitles.specs.Kinds.{IsNumberLine, is_padding, is_white, times_in};
-ghost use Rattle.wide_subtitles.specs.Times.{IsTimesLine, is_digit};
-ghost use Rattle.wide_subtitles.specs.declared.kinds.Kind.TheVariants.{Blank, Broken, Number};
+ghost use Rattle.std.specs.Prelude.{◌≡◌, ◌≤◌, ◌↔◌, ℕ, IfSome, IsTrue, Some, length, not, reverse};
+ghost use Rattle.std.specs.List.{AllPass, before_first, find, take_while};
+ghost use Rattle.wide_subtitles.specs.Kinds.{IsDamaged, IsNumberLine, begins_arrow, begins_clock, ends_in_dash, has_part, is_colon, is_dash, is_head, is_padding, is_white, seems_times, times_in};
+ghost use Rattle.wide_subtitles.specs.Times.{IsTimesLine, begins_with, is_digit};
+ghost use Rattle.wide_subtitles.specs.declared.kinds.Kind.TheVariants.{Blank, Broken, Number, Text};
 ghost use Rattle.wide_subtitles.specs.declared.times.Times.{Times};
 
-use crate::times::{Times, digits_len, times_of};
+use crate::times::{Times, begins_time, digits_len, is_digit, times_of};
 
 /// What a line is.
 #[derive(Clone, Copy, Debug, PartialEq, Eq)]
@@ -72,42 +72,114 @@ fn is_number(units: &[u16]) -> bool
     digits > 0 && is_only_padding(&rest[digits..])
 }
 
-// Returns whether the units have an arrow.
-fn has_arrow(units: &[u16]) -> bool {
-    let arrow = [b'-' as u16, b'-' as u16, b'>' as u16];
-    units.windows(3).any(|window| window == arrow.as_slice())
+// Returns whether units begin with an arrow.
+fn begins_arrow(units: &[u16]) -> bool
+    ensures { result ≡ begins_arrow units.now }
+{
+    matches!(units, [0x2d, 0x2d, 0x3e, ..])
+}
+
+// Returns whether units have an arrow.
+fn has_arrow(units: &[u16]) -> bool
+    ensures { result ≡ has_part begins_arrow units.now }
+{
+    let mut rest = units;
+    while let [_, tail @ ..] = rest {
+        if begins_arrow(rest) {
+            return true;
+        }
+        rest = tail;
+    }
+    false
 }
 
 // Returns whether a unit is a hyphen or a dash.
-fn is_dash(unit: u16) -> bool {
+fn is_dash(unit: u16) -> bool
+    ensures { result ≡ is_dash unit }
+{
     matches!(unit, 0x2d | 0x2010..=0x2015 | 0x2212)
 }
 
-// Returns whether two digits stand around a colon, as the hours and the minutes of a time do.
-fn has_clock(units: &[u16]) -> bool {
-    units.split(|unit| !matches!(unit, 0x30..=0x3a)).any(|run| {
-        let first = run.iter().position(|unit| *unit != 0x3a);
-        let last = run.iter().rposition(|unit| *unit != 0x3a);
-        match (first, last) {
-            (Some(first), Some(last)) => run
-                .iter()
-                .skip(first)
-                .take(last.saturating_sub(first))
-                .any(|unit| *unit == 0x3a),
-            _ => false,
+// Returns how many colons units begin with.
+fn colons_len(units: &[u16]) -> usize
+    ensures { result ≡ length (take_while is_colon units.now) }
+{
+    units.iter().take_while(|unit| **unit == 0x3a).count()
+}
+
+// Returns whether units begin with a digit.
+fn begins_digit(units: &[u16]) -> bool
+    ensures { result ≡ begins_with is_digit units.now }
+{
+    match units {
+        [unit, ..] => is_digit(*unit),
+        [] => false,
+    }
+}
+
+// Returns whether units begin with two digits around a colon or more, as the hours and the minutes of a time have.
+fn begins_clock(units: &[u16]) -> bool
+    ensures { result ≡ begins_clock units.now }
+{
+    let [unit, rest @ ..] = units else {
+        return false;
+    };
+    let colons = colons_len(rest);
+    is_digit(*unit) && colons > 0 && begins_digit(&rest[colons..])
+}
+
+// Returns whether two digits stand around a colon or more.
+fn has_clock(units: &[u16]) -> bool
+    ensures { result ≡ has_part begins_clock units.now }
+{
+    let mut rest = units;
+    while let [_, tail @ ..] = rest {
+        if begins_clock(rest) {
+            return true;
         }
-    })
+        rest = tail;
+    }
+    false
+}
+
+// Returns the last unit that is no padding.
+fn last_shown(units: &[u16]) -> Option<u16>
+    ensures { result ≡ find (λ unit. not (is_padding unit)) (reverse units.now) }
+{
+    units.iter().rev().copied().find(|unit| !is_padding(*unit))
+}
+
+// Returns whether units end in a dash, but for padding.
+fn ends_in_dash(units: &[u16]) -> bool
+    ensures { result ≡ ends_in_dash units.now }
+{
+    match last_shown(units) {
+        Some(unit) => is_dash(unit),
+        None => false,
+    }
+}
+
+// Returns how many units stand before the first `>`.
+fn head_of(units: &[u16]) -> usize
+    ensures { result ≡ length (before_first is_head units.now) }
+{
+    units.iter().take_while(|unit| **unit != 0x3e).count()
 }
 
 // Returns whether units have two times with something like an arrow between them, whatever is wrong with them: the head
 // of an arrow behind a dash, and digits around a colon on both sides.
-fn seems_times(units: &[u16]) -> bool {
-    let Some(head) = units.iter().position(|unit| *unit == 0x3e) else {
-        return false;
-    };
-    let (before, behind) = units.split_at(head);
-    let shaft = before.iter().rev().find(|unit| !is_padding(**unit));
-    shaft.is_some_and(|unit| is_dash(*unit)) && has_clock(before) && has_clock(behind)
+fn seems_times(units: &[u16]) -> bool
+    ensures { result ≡ seems_times units.now }
+{
+    let (before, behind) = units.split_at(head_of(units));
+    ends_in_dash(before) && has_clock(before) && has_clock(behind)
+}
+
+// Returns whether units were meant for times: a time stands at their beginning and they have an arrow, or they seem times.
+fn is_damaged(units: &[u16]) -> bool
+    ensures { IsTrue result ↔ IsDamaged units.now }
+{
+    (begins_time(units) && has_arrow(units)) || seems_times(units)
 }
 
 /// Returns what a line is.
@@ -116,6 +188,8 @@ pub fn kind_of(units: &[u16]) -> Kind
     ensures blank { (result ≡ Blank) ↔ AllPass is_white units.now }
     ensures number { (result ≡ Number) ↔ IsNumberLine units.now }
     ensures broken { (unit : ℕ) → result ≡ Broken unit → unit ≤ length units.now }
+    ensures damaged { (unit : ℕ) → result ≡ Broken unit → IsDamaged units.now }
+    ensures broken_or_text { result ≡ Text → ¬ (IsDamaged units.now) }
     ensures ordered { IfSome (times_in result) (λ times. (times.first_end ≤ times.second_end) × (times.second_end ≤ length units.now)) }
 {
     if is_blank(units) {
@@ -126,8 +200,7 @@ pub fn kind_of(units: &[u16]) -> Kind
     }
     match times_of(units) {
         Ok(times) => Kind::Times(times),
-        Err(unit) if unit > 0 && has_arrow(units) => Kind::Broken(unit),
-        Err(unit) if seems_times(units) => Kind::Broken(unit),
+        Err(unit) if is_damaged(units) => Kind::Broken(unit),
         Err(_) => Kind::Text,
     }
 }

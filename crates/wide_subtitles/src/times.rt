@@ -1,7 +1,7 @@
 //! Lines of times.
 
 ghost use Rattle.std.specs.Prelude.{◌≡◌, ◌+◌, ◌-◌, ◌*◌, ◌<◌, ◌≤◌, ◌^◌, ◌↔◌, ◌⊎◌, ℕ, IfErr, IfNone, IfOk, IfSome, IsSome, IsTrue, OnErr, drop, length, min, slice_get};
-ghost use Rattle.wide_subtitles.specs.Times.{HasArrow, HasTime, IsLineEnd, IsNumber, IsTimesLine, blanks_of, digits_of, is_blank, is_digit, is_usual, number};
+ghost use Rattle.wide_subtitles.specs.Times.{BeginsTime, HasArrow, HasTime, IsLineEnd, IsNumber, IsTimesLine, blanks_of, digits_of, is_blank, is_digit, is_usual, number};
 ghost use Rattle.wide_subtitles.specs.declared.time.Time.{Time};
 ghost use Rattle.wide_subtitles.specs.declared.times.Times.{Times};
 
@@ -45,8 +45,8 @@ fn is_blank(unit: u16) -> bool
     unit == SPACE || unit == TAB
 }
 
-// Returns whether a unit is a decimal digit.
-fn is_digit(unit: u16) -> bool
+/// Returns whether a unit is a decimal digit.
+pub fn is_digit(unit: u16) -> bool
     ensures { result ≡ is_digit unit }
 {
     (0x30..=0x39).contains(&unit)
@@ -202,6 +202,13 @@ fn time_at(units: &[u16], at: usize) -> Option<(Time, usize)>
         is_usual: is_usual(is_negative, hours, minutes, seconds, point, rest),
     };
     Some((time, rest.end))
+}
+
+/// Returns whether a time stands at the beginning of units, but for blanks.
+pub fn begins_time(units: &[u16]) -> bool
+    ensures { IsTrue result ↔ BeginsTime units.now }
+{
+    time_at(units, after_blanks(units, 0)).is_some()
 }
 
 // Reads the arrow between two times, and returns the offset after it and the blanks behind it.

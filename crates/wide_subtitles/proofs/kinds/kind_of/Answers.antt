@@ -23,6 +23,3 @@ returns-in-Err-clause-times c = has_none c.args.units.now c.in-Err.ensures.no_li
 
 pub returns-in-Err-2-clause-times : goal.returns-in-Err-2-clause-times
 returns-in-Err-2-clause-times c = has_none c.args.units.now c.in-Err-2.ensures.no_line
-
-pub returns-in-Err-3-clause-times : goal.returns-in-Err-3-clause-times
-returns-in-Err-3-clause-times c = has_none c.args.units.now c.in-Err-3.ensures.no_line
