@@ -19,10 +19,14 @@ times_in Text = None
 abbrev pub is_white : ℕ → Bool
 is_white unit = unit == 9 || unit == 0xb || unit == 0xc || unit == 0x20
 
+-- Whether a unit is a wide blank, or a mark of direction or of order.
+abbrev pub is_hidden : ℕ → Bool
+is_hidden unit =
+    unit == 0xa0 || unit == 0x200e || unit == 0x200f || (nat_le 0x202a unit && nat_le unit 0x202e) || unit == 0x3000 || unit == 0xfeff
+
 -- Whether a unit is white space, or one of a wide or hidden kind.
 abbrev pub is_padding : ℕ → Bool
-is_padding unit =
-    is_white unit || unit == 0xa0 || unit == 0x200e || unit == 0x200f || (nat_le 0x202a unit && nat_le unit 0x202e) || unit == 0x3000 || unit == 0xfeff
+is_padding unit = is_white unit || is_hidden unit
 
 -- A line with a number: at least one digit, with padding before and behind them.
 pub record IsNumberLine (units : List ℕ) : Type 0 where
@@ -67,13 +71,13 @@ ends_in_dash units = option_map_or is_dash (find (λ unit. not (is_padding unit)
 abbrev pub is_head : ℕ → Bool
 is_head unit = unit == 0x3e
 
--- Whether units seem two times: a dash and then `>`, and two digits around a colon on both sides.
+-- Whether units seem to be two times: a dash and then `>`, and two digits around a colon on both sides.
 abbrev pub seems_times : List ℕ → Bool
 seems_times units =
     let before = before_first is_head units in
     let behind = drop (length before) units in
     ends_in_dash before && has_part begins_clock before && has_part begins_clock behind
 
--- The units were meant for times: a time stands at their beginning and they have an arrow, or they seem two times.
+-- The units were meant for times: a time stands at their beginning and they have an arrow, or they seem to be two times.
 abbrev pub IsDamaged : List ℕ → Type 0
 IsDamaged units = (BeginsTime units × (has_part begins_arrow units ≡ true)) ⊎ (seems_times units ≡ true)

@@ -72,7 +72,7 @@ fn is_number(units: &[u16]) -> bool
     digits > 0 && is_only_padding(&rest[digits..])
 }
 
-// Returns whether units begin with an arrow.
+// Returns whether units begin with `-->`.
 fn begins_arrow(units: &[u16]) -> bool
     ensures { result ≡ begins_arrow units.now }
 {
@@ -117,7 +117,7 @@ fn begins_digit(units: &[u16]) -> bool
     }
 }
 
-// Returns whether units begin with two digits around a colon or more, as the hours and the minutes of a time have.
+// Returns whether units begin with two digits around a colon or more, as the hours and the minutes of a time do.
 fn begins_clock(units: &[u16]) -> bool
     ensures { result ≡ begins_clock units.now }
 {
@@ -128,7 +128,7 @@ fn begins_clock(units: &[u16]) -> bool
     is_digit(*unit) && colons > 0 && begins_digit(&rest[colons..])
 }
 
-// Returns whether two digits stand around a colon or more.
+// Returns whether two digits stand around a colon or more somewhere in units.
 fn has_clock(units: &[u16]) -> bool
     ensures { result ≡ has_part begins_clock units.now }
 {
@@ -175,7 +175,8 @@ fn seems_times(units: &[u16]) -> bool
     ends_in_dash(before) && has_clock(before) && has_clock(behind)
 }
 
-// Returns whether units were meant for times: a time stands at their beginning and they have an arrow, or they seem times.
+// Returns whether units were meant for times: a time stands at their beginning and they have an arrow, or they seem to
+// be two times.
 fn is_damaged(units: &[u16]) -> bool
     ensures { IsTrue result ↔ IsDamaged units.now }
 {
