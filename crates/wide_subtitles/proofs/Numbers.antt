@@ -6,7 +6,8 @@ use Rattle.std.proofs.lemmas.List.Elements.{All-append, All-drop, All-head, All-
 use Rattle.std.proofs.lemmas.List.{take_rest}
 use Rattle.std.proofs.lemmas.Option.{none-some, same_Some}
 use Rattle.wide_subtitles.specs.Kinds.{IsNumberLine, is_padding, is_white}
-use Rattle.wide_subtitles.specs.Times.{IsTimesLine, begins_with, digits_of, is_digit}
+use Rattle.wide_subtitles.specs.Times.{IsFault, IsTimesLine, begins_with, digits_of, is_digit}
+use Rattle.wide_subtitles.specs.declared.kinds.Kind.TheVariants.{Broken}
 use Rattle.wide_subtitles.specs.declared.times.Times.{Times}
 use Rattle.wide_subtitles.proofs.Fronts.{front_of, front_parts, front_passes, unit_at}
 use Rattle.wide_subtitles.proofs.Parts.{one_line, parts_from_line, parts_from_time}
@@ -130,3 +131,7 @@ has_times units found times l =
 
 pub has_none : (units : List ℕ) → ((times : Times) → ¬ (IsTimesLine units times)) → (times : Times) → (None ≡ Some times) ↔ IsTimesLine units times
 has_none units none times = (λ e. absurd (none-some times e), λ l. absurd (none times l))
+
+-- Broken times are at fault where they say so.
+pub fault_of : (units : List ℕ) (found unit : ℕ) → IsFault units found → Broken found ≡ Broken unit → IsFault units unit
+fault_of units found unit fault e = let same : found ≡ unit = cc in subst (IsFault units) same fault

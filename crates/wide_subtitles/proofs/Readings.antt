@@ -4,7 +4,7 @@ use Rattle.std.specs.List.{slice_get}
 use Rattle.std.specs.Prelude.{IfNone, IfSome, IsSome, is_some, unwrap_or}
 use Rattle.std.proofs.lemmas.Bool.{false≢true}
 use Rattle.std.proofs.lemmas.Option.{get_or_from_slice_get}
-use Rattle.wide_subtitles.specs.Times.{BeginsTime, HasArrow, HasTime, IsLineEnd, IsNumber, IsTimesLine, blanks_of, is_usual, sign_of}
+use Rattle.wide_subtitles.specs.Times.{ArrowEnds, BeginsTime, FirstEnds, HasArrow, HasTime, IsFault, IsLineEnd, IsNumber, IsTimesLine, blanks_of, is_usual, sign_of}
 use Rattle.wide_subtitles.specs.declared.time.Time.{Time}
 use Rattle.wide_subtitles.specs.declared.times.Times.{Times}
 use Rattle.wide_subtitles.proofs.Parts.{LineAt, TimeAt, arrow_from_parts, blanks_at, digits_at, line_from_parts, one_arrow, one_time, parts_from_arrow, parts_from_line, parts_from_time, same_test}
@@ -174,3 +174,29 @@ begins_read units first end_of time_of (Some read) b e f some none =
 begins_read units first end_of time_of None b e f some none =
     let at : first ≡ length (blanks_of units) = e ∙ zero-add (length (blanks_at units 0)) in
     (λ h. absurd (false≢true (sym f ∙ h)), λ h. absurd (none h.end h.time (rw at h.is_time)))
+
+-- Where a part of a line of times is missing, it is at fault.
+first_ends_read : (units : List ℕ) (first first_end : ℕ) (begin : Time) → first ≡ 0 + length (blanks_at units 0) → HasTime units first first_end begin → FirstEnds units first_end
+first_ends_read units first first_end begin e t =
+    let at : first ≡ length (blanks_of units) = e ∙ zero-add (length (blanks_at units 0)) in
+    record { time = begin; is_time = rw at at t }
+
+pub fault_begin : (units : List ℕ) (first : ℕ) → first ≡ 0 + length (blanks_at units 0) → ((end : ℕ) (time : Time) → ¬ (HasTime units first end time)) → IsFault units first
+fault_begin units first e none =
+    let at : first ≡ length (blanks_of units) = e ∙ zero-add (length (blanks_at units 0)) in
+    inl (at, λ end h. none end h.time (rw at h.is_time))
+
+pub fault_arrow : (units : List ℕ) (first first_end : ℕ) (begin : Time) → first ≡ 0 + length (blanks_at units 0) → HasTime units first first_end begin → ((end : ℕ) → ¬ (HasArrow units first_end end)) → IsFault units first_end
+fault_arrow units first first_end begin e t none = inr (inl (first_ends_read units first first_end begin e t, none))
+
+arrow_ends_read : (units : List ℕ) (first first_end second : ℕ) (begin : Time) → first ≡ 0 + length (blanks_at units 0) → HasTime units first first_end begin → HasArrow units first_end second → ArrowEnds units second
+arrow_ends_read units first first_end second begin e t a =
+    record { first_end = first_end; is_first = first_ends_read units first first_end begin e t; is_arrow = a }
+
+pub fault_second : (units : List ℕ) (first first_end second : ℕ) (begin : Time) → first ≡ 0 + length (blanks_at units 0) → HasTime units first first_end begin → HasArrow units first_end second → ((end : ℕ) (time : Time) → ¬ (HasTime units second end time)) → IsFault units second
+fault_second units first first_end second begin e t a none =
+    inr (inr (inl (arrow_ends_read units first first_end second begin e t a, none)))
+
+pub fault_end : (units : List ℕ) (first first_end second second_end : ℕ) (begin end : Time) → first ≡ 0 + length (blanks_at units 0) → HasTime units first first_end begin → HasArrow units first_end second → HasTime units second second_end end → ¬ (IsLineEnd (drop second_end units)) → IsFault units second_end
+fault_end units first first_end second second_end begin end e t a u none =
+    inr (inr (inr (record { second = second; time = end; is_arrow = arrow_ends_read units first first_end second begin e t a; is_second = u }, none)))

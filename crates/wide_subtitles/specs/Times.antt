@@ -97,6 +97,33 @@ pub record HasArrow (units : List ℕ) (at end : ℕ) : Type 0 where
 abbrev pub IsLineEnd : List ℕ → Type 0
 IsLineEnd units = (units ≡ []) ⊎ (begins_with is_blank units ≡ true)
 
+-- The first time ends at an offset.
+pub record FirstEnds (units : List ℕ) (end : ℕ) : Type 0 where
+  pub time : Time
+  pub is_time : HasTime units (length (blanks_of units)) end time
+
+-- An arrow behind it, and the blanks behind the arrow.
+pub record ArrowEnds (units : List ℕ) (end : ℕ) : Type 0 where
+  pub first_end : ℕ
+  pub is_first : FirstEnds units first_end
+  pub is_arrow : HasArrow units first_end end
+
+-- The second time.
+pub record SecondEnds (units : List ℕ) (end : ℕ) : Type 0 where
+  pub second : ℕ
+  pub time : Time
+  pub is_arrow : ArrowEnds units second
+  pub is_second : HasTime units second end time
+
+-- Where units stop being a line of times: where the first time should begin, an arrow behind it, the second time, or where
+-- something stands behind that which may not.
+abbrev pub IsFault : List ℕ → ℕ → Type 0
+IsFault units unit =
+    ((unit ≡ length (blanks_of units)) × ((end : ℕ) → ¬ (FirstEnds units end))) ⊎
+    ((FirstEnds units unit × ((end : ℕ) → ¬ (HasArrow units unit end))) ⊎
+    ((ArrowEnds units unit × ((end : ℕ) (time : Time) → ¬ (HasTime units unit end time))) ⊎
+    (SecondEnds units unit × ¬ (IsLineEnd (drop unit units)))))
+
 -- A line of times: two with an arrow between them, blanks before each and around the arrow, and what stands behind a
 -- blank after them. The offsets are those at which the two begin and end.
 pub record IsTimesLine (units : List ℕ) (times : Times) : Type 0 where

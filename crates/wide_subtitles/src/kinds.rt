@@ -3,7 +3,7 @@
 ghost use Rattle.std.specs.Prelude.{◌≡◌, ◌≤◌, ◌↔◌, ℕ, IfSome, IsTrue, Some, length, not, reverse};
 ghost use Rattle.std.specs.List.{AllPass, before_first, find, take_while};
 ghost use Rattle.wide_subtitles.specs.Kinds.{IsDamaged, IsNumberLine, begins_arrow, begins_clock, ends_in_dash, has_part, is_colon, is_dash, is_head, is_padding, is_white, seems_times, times_in};
-ghost use Rattle.wide_subtitles.specs.Times.{IsTimesLine, begins_with, is_digit};
+ghost use Rattle.wide_subtitles.specs.Times.{IsFault, IsTimesLine, begins_with, is_digit};
 ghost use Rattle.wide_subtitles.specs.declared.kinds.Kind.TheVariants.{Blank, Broken, Number, Text};
 ghost use Rattle.wide_subtitles.specs.declared.times.Times.{Times};
 
@@ -189,6 +189,7 @@ pub fn kind_of(units: &[u16]) -> Kind
     ensures blank { (result ≡ Blank) ↔ AllPass is_white units.now }
     ensures number { (result ≡ Number) ↔ IsNumberLine units.now }
     ensures broken { (unit : ℕ) → result ≡ Broken unit → unit ≤ length units.now }
+    ensures fault { (unit : ℕ) → result ≡ Broken unit → IsFault units.now unit }
     ensures damaged { (unit : ℕ) → result ≡ Broken unit → IsDamaged units.now }
     ensures broken_or_text { result ≡ Text → ¬ (IsDamaged units.now) }
     ensures ordered { IfSome (times_in result) (λ times. (times.first_end ≤ times.second_end) × (times.second_end ≤ length units.now)) }

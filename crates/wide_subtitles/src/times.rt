@@ -1,7 +1,7 @@
 //! Lines of times.
 
 ghost use Rattle.std.specs.Prelude.{◌≡◌, ◌+◌, ◌-◌, ◌*◌, ◌<◌, ◌≤◌, ◌^◌, ◌↔◌, ◌⊎◌, ℕ, IfErr, IfNone, IfOk, IfSome, IsSome, IsTrue, OnErr, drop, length, min, slice_get};
-ghost use Rattle.wide_subtitles.specs.Times.{BeginsTime, HasArrow, HasTime, IsLineEnd, IsNumber, IsTimesLine, blanks_of, digits_of, is_blank, is_digit, is_usual, number};
+ghost use Rattle.wide_subtitles.specs.Times.{BeginsTime, HasArrow, HasTime, IsFault, IsLineEnd, IsNumber, IsTimesLine, blanks_of, digits_of, is_blank, is_digit, is_usual, number};
 ghost use Rattle.wide_subtitles.specs.declared.time.Time.{Time};
 ghost use Rattle.wide_subtitles.specs.declared.times.Times.{Times};
 
@@ -244,6 +244,7 @@ fn is_end(units: &[u16], at: usize) -> bool
 pub fn times_of(units: &[u16]) -> Result<Times, usize>
     ensures line { IfOk result (λ times. IsTimesLine units.now times) }
     ensures no_line { OnErr result ((times : Times) → ¬ (IsTimesLine units.now times)) }
+    ensures fault { IfErr result (λ unit. IsFault units.now unit) }
     ensures unit { IfErr result (λ unit. unit ≤ length units.now) }
     ensures ordered { IfOk result (λ times. (times.first_end ≤ times.second_end) × (times.second_end ≤ length units.now)) }
 {

@@ -1,5 +1,5 @@
 use Rattle.std.proofs.Common.{refl}
-use Rattle.wide_subtitles.proofs.Numbers.{blank_no_line, blank_no_number, has_none, has_times, number_no_line}
+use Rattle.wide_subtitles.proofs.Numbers.{blank_no_line, blank_no_number, fault_of, has_none, has_times, number_no_line}
 use Rattle.wide_subtitles.proofs.kinds.kind_of.Goals as goal
 
 pub returns-then-is_blank-clause-times : goal.returns-then-is_blank-clause-times
@@ -23,3 +23,6 @@ returns-in-Err-clause-times c = has_none c.args.units.now c.in-Err.ensures.no_li
 
 pub returns-in-Err-2-clause-times : goal.returns-in-Err-2-clause-times
 returns-in-Err-2-clause-times c = has_none c.args.units.now c.in-Err-2.ensures.no_line
+
+pub returns-in-Err-clause-fault : goal.returns-in-Err-clause-fault
+returns-in-Err-clause-fault c = λ unit e. fault_of c.args.units.now c.in-Err.unit unit c.in-Err.ensures.fault e
