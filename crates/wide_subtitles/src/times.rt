@@ -235,8 +235,8 @@ fn is_end(units: &[u16], at: usize) -> bool
 }
 
 /// Parses a line of times: two with `-->` between them, and what stands behind a blank after them. Blanks may stand
-/// before each and around the arrow. A time has hours, minutes and seconds of one digit or more, and one to three digits
-/// of a second after a comma or a point; a minus before it makes it negative.
+/// before each and around the arrow. A time has hours of one digit or more, minutes and seconds of one or two, below 60,
+/// and one to three digits of a second after a comma or a point; a minus before it makes it negative.
 ///
 /// # Errors
 ///
