@@ -124,8 +124,12 @@ fn begins_clock(units: &[u16]) -> bool
     let [unit, rest @ ..] = units else {
         return false;
     };
+    // Colons are counted behind a digit alone, and so once each.
+    if !is_digit(*unit) {
+        return false;
+    }
     let colons = colons_len(rest);
-    is_digit(*unit) && colons > 0 && begins_digit(&rest[colons..])
+    colons > 0 && begins_digit(&rest[colons..])
 }
 
 // Returns whether two digits stand around a colon or more somewhere in units.
