@@ -1,0 +1,4 @@
+pub mod Fronts
+pub mod Numbers
+pub mod Parts
+pub mod Readings

@@ -1,2 +1,4 @@
 pub mod Kinds
 pub mod Lines
+pub mod Locations
+pub mod Times

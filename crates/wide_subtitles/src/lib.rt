@@ -7,9 +7,11 @@
 mod kinds;
 mod lines;
 mod location;
+mod time;
 mod times;
 
 pub use kinds::{Kind, kind_of};
 pub use lines::{Line, first_line};
 pub use location::{Finding, Location, Step};
-pub use times::{Moved, Time, Times, move_time, times_of};
+pub use time::{Moved, Time, move_time};
+pub use times::{Times, times_of};

@@ -2,8 +2,8 @@
 
 ghost use Rattle.std.specs.Prelude.{◌≡◌, None, Some};
 ghost use Rattle.wide_subtitles.specs.Kinds.{times_in};
-ghost use Rattle.wide_subtitles.specs.declared.kinds.Kind.TheVariants.{Blank};
-ghost use Rattle.wide_subtitles.specs.declared.location.Location.TheVariants.{Start, Text};
+ghost use Rattle.wide_subtitles.specs.Locations.{finding_after, next_after};
+ghost use Rattle.wide_subtitles.specs.declared.kinds.Kind.TheVariants.{Blank, Number};
 
 use crate::kinds::Kind;
 use crate::times::Times;
@@ -59,8 +59,9 @@ impl Location {
 
     // Returns what follows from a line of white space.
     fn after_blank(self) -> Step
-        ensures next { result.next ≡ Start }
         ensures times { result.times ≡ None }
+        ensures finding { result.finding ≡ finding_after self Blank }
+        ensures next { result.next ≡ next_after self Blank }
     {
         match self {
             Location::Times => Location::Start.step(Some(Finding::NotTimes(0))),
@@ -70,8 +71,9 @@ impl Location {
 
     // Returns what follows from a line of times.
     fn after_times(self, times: Times) -> Step
-        ensures next { result.next ≡ Text }
         ensures times { result.times ≡ Some times }
+        ensures finding { result.finding ≡ finding_after self (Kind.Times times) }
+        ensures next { result.next ≡ next_after self (Kind.Times times) }
     {
         let finding = match self {
             Location::Start => Some(Finding::NoNumber),
@@ -88,6 +90,8 @@ impl Location {
     // Returns what follows from a number.
     fn after_number(self) -> Step
         ensures times { result.times ≡ None }
+        ensures finding { result.finding ≡ finding_after self Number }
+        ensures next { result.next ≡ next_after self Number }
     {
         match self {
             Location::Start => Location::Times.step(None),
@@ -99,6 +103,8 @@ impl Location {
     // Returns what follows from a line of text.
     fn after_text(self) -> Step
         ensures times { result.times ≡ None }
+        ensures finding { result.finding ≡ finding_after self Kind.Text }
+        ensures next { result.next ≡ next_after self Kind.Text }
     {
         let finding = match self {
             Location::Start => Some(Finding::NotNumber),
@@ -112,7 +118,8 @@ impl Location {
     /// behind when all are moved, and an empty line ends one.
     pub fn after(self, kind: Kind) -> Step
         ensures times { result.times ≡ times_in kind }
-        ensures blank { kind ≡ Blank → result.next ≡ Start }
+        ensures finding { result.finding ≡ finding_after self kind }
+        ensures next { result.next ≡ next_after self kind }
     {
         match kind {
             Kind::Blank => self.after_blank(),
