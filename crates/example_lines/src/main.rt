@@ -175,35 +175,38 @@ impl Lines {
         Ok(())
     }
 
-    // Prints those of some lines that have the word, and returns the number of the last one.
-    fn read_lines<'a, I: Iterator<Item = U16Str<'a>> + Drop>(
+    // Prints the lines between the carriage returns of a line that have the word. Returns the number of the last one.
+    fn read_parts(
         &mut self,
         outcome: &mut Outcome<'_>,
-        lines: I,
+        line: U16Str<'_>,
         before: usize,
     ) -> Result<usize, AllocError> {
         let mut number = before;
-        for line in lines {
+        for part in line.split_char('\r') {
             number = number.saturating_add(1);
-            self.read_line(outcome, number, line)?;
+            self.read_line(outcome, number, part)?;
         }
         Ok(number)
     }
 
     // Prints the lines of a text that have the word.
     fn read_text(&mut self, outcome: &mut Outcome<'_>, text: U16Str<'_>) -> Result<(), AllocError> {
-        if !self.ends_at_return {
-            let _count = self.read_lines(outcome, text.lines_lossy(), 0)?;
-            return Ok(());
-        }
-        let mut number = 0;
+        let mut number: usize = 0;
         for (start, line) in text.line_indices_lossy() {
             // Behind a carriage return at the end of the text there is no line.
-            number = if start.saturating_add(line.len()) < text.len() {
-                self.read_lines(outcome, line.split_char('\r'), number)?
+            let is_last = start.saturating_add(line.len()) >= text.len();
+            let line = if is_last && self.ends_at_return {
+                line.strip_suffix_char('\r').unwrap_or(line)
             } else {
-                self.read_lines(outcome, line.split_terminator_char('\r'), number)?
+                line
             };
+            if self.ends_at_return {
+                number = self.read_parts(outcome, line, number)?;
+            } else {
+                number = number.saturating_add(1);
+                self.read_line(outcome, number, line)?;
+            }
         }
         Ok(())
     }
