@@ -376,8 +376,7 @@ def reported(text, bad, reports):
         written.append(f"line {line + 1}, unit {at - starts[line]}: {what}\n")
 
     for at, what in reports:
-        is_of_part = what.startswith("half of a unit")
-        while bad and bad[0][0] < at and not is_of_part:
+        while bad and bad[0][0] < at:
             write(*bad.pop(0))
         if what not in told or what not in ("a line feed alone", "a carriage return alone"):
             write(at, what)

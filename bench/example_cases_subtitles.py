@@ -134,7 +134,9 @@ class Reader:
                 self.note("a subtitle without an empty line before it")
             return times
         self.expects = "text"
-        if not is_number and (times > 0 and "-->" in line or seems_times(line)):
+        # A time that stands at the beginning moves the place at which the line is none of times.
+        has_time = not is_number and times > len(line) - len(line.lstrip(" \t"))
+        if not is_number and (has_time and "-->" in line or seems_times(line)):
             self.report(times, "no times")
         elif expects == "start" and is_number:
             self.expects = "times"
