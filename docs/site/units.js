@@ -3,6 +3,7 @@
 const hex = (number, digits) => number.toString(16).toUpperCase().padStart(digits, "0");
 const hexOfBytes = (array) => [...array].map((byte) => hex(byte, 2)).join(" ");
 const hexOfUnits = (array) => [...array].map((unit) => hex(unit, 4)).join(" ");
+const counted = (number, what) => `${number} ${what}${number === 1 ? "" : "s"}`;
 const byId = (id) => document.getElementById(id);
 
 /** A row of a table, of texts alone. */
@@ -36,7 +37,7 @@ function show(wide, units) {
     const faults = wide.utf16FaultCount(units);
     const first = wide.utf16FirstFault(units);
     byId("units-summary").textContent =
-        `${units.length} units, ${items.length - faults} characters, ${faults} faults` + (first === undefined ? ": well formed." : `, the first at offset ${first}.`);
+        `${counted(units.length, "unit")}, ${counted(items.length - faults, "character")}, ${counted(faults, "fault")}` + (first === undefined ? ": well formed." : `, the first at offset ${first}.`);
     byId("units-items").replaceChildren(...items.map((item) => itemRow(wide, units, item)));
     const repaired = wide.utf16Repair(units);
     byId("units-texts").replaceChildren(
